@@ -1,0 +1,18 @@
+-- Lists and searches over a range of numbers, given by a function of the number.
+use mathlib.Core.Bool.{Bool, cond}
+use mathlib.Core.List.{List, [], _∷_}
+use Prim.Native.Nat.{ℕ, zero, suc}
+
+-- f i, f (i + 1), .. : k of them.
+unfoldable pub tabFrom : {A : Type 0} → (ℕ → A) → ℕ → ℕ → List A
+tabFrom f i zero = []
+tabFrom f i (suc k) = f i ∷ tabFrom f (suc i) k
+
+-- f 0, f 1, .. : n of them.
+abbrev pub tab : {A : Type 0} → (ℕ → A) → ℕ → List A
+tab f n = tabFrom f 0 n
+
+-- The first of the k numbers from i on that passes the test, or i + k where none does.
+unfoldable pub firstFrom : (ℕ → Bool) → ℕ → ℕ → ℕ
+firstFrom p i zero = i
+firstFrom p i (suc k) = cond (p i) i (firstFrom p (suc i) k)

@@ -1,0 +1,1 @@
+// What several layers need of lists and bytes, once.

@@ -1,0 +1,224 @@
+// The block pool: 56 blocks in three pools, each with a generation and a count of references. What stands above relies on the promises
+// alone, which speak of `cells p`, the row of blocks that a pool stands for.
+ghost use mathlib.Core.Path.{_≡_};
+ghost use mathlib.Core.List.{List};
+ghost use Prim.Native.Nat.{ℕ, _-_, _<_, _≤_};
+ghost use Rattle.ground.specs.Range.{firstFrom};
+ghost use Rattle.pool.specs.Cell.{isFree, isNew, atLast, nextGeneration, more, fewer, dropped};
+ghost use Rattle.pool.specs.Inside.{cells, freed, rowOf};
+ghost use Rattle.pool.specs.Promise.{Takes, Frees};
+ghost use Rattle.pool.specs.Row.{at, changed, freshRow, generationAt, staleAt, poolFor, lowestFree};
+
+const BLOCKS: usize = 56;
+
+const LAST_GENERATION: u8 = 255;
+
+// What a block's count says: free, live without a reference, live with one. Each further reference is one more.
+const FREE: u16 = 0;
+
+const NEW: u16 = 1;
+
+const LAST: u16 = 2;
+
+const MOST: u16 = 65535;
+
+pub struct Pool {
+    gens: [u8; 56],
+    counts: [u16; 56],
+}
+
+// The blocks from `from` up to, not including, `to`.
+pub struct Span {
+    pub from: usize,
+    pub to: usize,
+}
+
+pub enum Found {
+    At(usize),
+    Nothing,
+}
+
+pub struct Taken {
+    pub pool: Pool,
+    pub found: Found,
+}
+
+pub struct Gone {
+    pub pool: Pool,
+    pub freed: bool,
+}
+
+// Every block free, at generation 0.
+pub fn fresh() -> Pool
+    ensures { λ r. ⌜ cells r ≡ freshRow ⌝ }
+{
+    Pool {
+        gens: [0u8; 56],
+        counts: [FREE; 56],
+    }
+}
+
+// The first pool whose blocks are large enough for a size.
+fn pool_for(size: usize) -> Span
+    ensures { λ r. ⌜ r ≡ poolFor size ⌝ }
+{
+    if size <= 16 {
+        return Span { from: 0, to: 32 };
+    }
+    if size <= 32 {
+        return Span { from: 32, to: 48 };
+    }
+    if size <= 64 {
+        return Span { from: 48, to: 56 };
+    }
+    Span { from: 56, to: 56 }
+}
+
+// The lowest free block from `from` up to `to`, or `to` where none is. The generations have no part in it.
+fn lowest(counts: &[u16; 56], from: usize, to: usize) -> usize
+    requires { ⌜ to ≤ 56 ⌝ }
+    ensures { λ r. ⌜ ((gens : List ℕ) → r ≡ firstFrom (λ b. isFree (at (rowOf gens (now (counts .entry))) b)) from (to - from)) ⌝ }
+{
+    let mut b = from;
+    while b < to {
+        if counts[b] == FREE {
+            return b;
+        }
+        b += 1;
+    }
+    b
+}
+
+// The lowest free block of the first pool that is large enough is handed out: live, with no reference.
+pub fn take(p: Pool, size: usize) -> Taken
+    ensures { λ r. ⌜ Takes (cells p) size (cells (r .pool)) (r .found) ⌝ }
+{
+    let span = pool_for(size);
+    let from = span.from;
+    let to = span.to;
+    let mut q = p;
+    let b = lowest(&q.counts, from, to);
+    if to <= b {
+        return Taken {
+            pool: q,
+            found: Found::Nothing,
+        };
+    }
+    q.counts[b] = NEW;
+    Taken {
+        pool: q,
+        found: Found::At(b),
+    }
+}
+
+// One reference more to a live block.
+pub fn add(p: Pool, b: usize) -> Pool
+    ensures { λ r. ⌜ cells r ≡ changed more (cells p) b ⌝ }
+{
+    let mut q = p;
+    if BLOCKS <= b {
+        return q;
+    }
+    let n = q.counts[b];
+    if n == FREE {
+        return q;
+    }
+    if MOST <= n {
+        return q;
+    }
+    q.counts[b] = n + 1;
+    q
+}
+
+fn next_generation(g: u8) -> u8
+    ensures { λ r. ⌜ r ≡ nextGeneration g ⌝ }
+{
+    if g == LAST_GENERATION { 0 } else { g + 1 }
+}
+
+// Block b is free, one generation on.
+fn set_free(p: Pool, b: usize) -> Pool
+    requires { ⌜ b < 56 ⌝ }
+    ensures { λ r. ⌜ cells r ≡ changed freed (cells p) b ⌝ }
+{
+    let mut q = p;
+    q.gens[b] = next_generation(q.gens[b]);
+    q.counts[b] = FREE;
+    q
+}
+
+// One reference fewer; the last one frees the block.
+pub fn let_go(p: Pool, b: usize) -> Gone
+    ensures { λ r. ⌜ Frees fewer atLast (cells p) b (cells (r .pool)) (r .freed) ⌝ }
+{
+    let mut q = p;
+    if BLOCKS <= b {
+        return Gone {
+            pool: q,
+            freed: false,
+        };
+    }
+    let n = q.counts[b];
+    if n < LAST {
+        return Gone {
+            pool: q,
+            freed: false,
+        };
+    }
+    if n == LAST {
+        return Gone {
+            pool: set_free(q, b),
+            freed: true,
+        };
+    }
+    q.counts[b] = n - 1;
+    Gone {
+        pool: q,
+        freed: false,
+    }
+}
+
+// A block that has no reference yet is freed.
+pub fn drop_new(p: Pool, b: usize) -> Gone
+    ensures { λ r. ⌜ Frees dropped isNew (cells p) b (cells (r .pool)) (r .freed) ⌝ }
+{
+    if BLOCKS <= b {
+        return Gone {
+            pool: p,
+            freed: false,
+        };
+    }
+    if p.counts[b] == NEW {
+        return Gone {
+            pool: set_free(p, b),
+            freed: true,
+        };
+    }
+    Gone {
+        pool: p,
+        freed: false,
+    }
+}
+
+// The generation of a block; 0 where there is no such block.
+pub fn generation(p: Pool, b: usize) -> u8
+    ensures { λ r. ⌜ r ≡ generationAt (cells p) b ⌝ }
+{
+    if BLOCKS <= b {
+        return 0;
+    }
+    p.gens[b]
+}
+
+// Whether the handle of block b at generation g is stale.
+pub fn stale(p: Pool, b: usize, g: u8) -> bool
+    ensures { λ r. ⌜ r ≡ staleAt (cells p) b g ⌝ }
+{
+    if BLOCKS <= b {
+        return true;
+    }
+    if p.counts[b] == FREE {
+        return true;
+    }
+    p.gens[b] != g
+}
