@@ -1,6 +1,11 @@
--- Range: lists and searches that are given by a function of a place. The rest are laws: Tab of such lists, Search of such searches,
--- Bools of tests.
+-- To be believed: Range (lists and searches that are given by a function of a place) and Bytes. The rest are laws: Tab, Search, Every of
+-- Range; Padding of Bytes; Bools, Lists, Parts of what their names say.
 pub mod Bools
+pub mod Bytes
+pub mod Every
+pub mod Lists
+pub mod Padding
+pub mod Parts
 pub mod Range
 pub mod Search
 pub mod Tab

@@ -1,7 +1,7 @@
 -- Lists and searches over a range of numbers, given by a function of the number.
-use mathlib.Core.Bool.{Bool, cond}
+use mathlib.Core.Bool.{Bool, true, cond, _&&_}
 use mathlib.Core.List.{List, [], _∷_}
-use Prim.Native.Nat.{ℕ, zero, suc}
+use Prim.Native.Nat.{ℕ, zero, suc, _-_}
 
 -- f i, f (i + 1), .. : k of them.
 unfoldable pub tabFrom : {A : Type 0} → (ℕ → A) → ℕ → ℕ → List A
@@ -16,3 +16,12 @@ tab f n = tabFrom f 0 n
 unfoldable pub firstFrom : (ℕ → Bool) → ℕ → ℕ → ℕ
 firstFrom p i zero = i
 firstFrom p i (suc k) = cond (p i) i (firstFrom p (suc i) k)
+
+-- Each of the k numbers from i on passes the test.
+unfoldable pub everyFrom : (ℕ → Bool) → ℕ → ℕ → Bool
+everyFrom p i zero = true
+everyFrom p i (suc k) = p i && everyFrom p (suc i) k
+
+-- Each number from i up to, not including, e passes the test.
+abbrev pub every : (ℕ → Bool) → ℕ → ℕ → Bool
+every p i e = everyFrom p i (e - i)

@@ -1,0 +1,183 @@
+/*
+ * Calls the check and the flattener from C, as the bench PC does.
+ *
+ * The expected bytes are written by hand from document 01.
+ */
+#include "trunhoac_chart.h"
+
+#include <stdbool.h>
+#include <stdio.h>
+#include <stdlib.h>
+#include <string.h>
+
+enum {
+    RECORD_BYTES = 8,
+    ROW_BYTES = 24,
+    TOO_LONG_BYTES = 5584,
+    GUARD_BYTES = 64,
+    /* No table that is made here has a byte of this value: one that has it was not written. */
+    FILL = 170
+};
+
+static const uint8_t shift_chart[] = {
+    3, 1, 10, 0,  0, 0,  0, 0, /* top */
+    1, 0, 11, 12, 2, 13, 0, 0, /* state 1 */
+    1, 1, 21, 22, 0, 0,  0, 0, /* state 2 */
+    1, 1, 31, 32, 4, 33, 0, 0, /* state 3 */
+    1, 3, 41, 42, 0, 0,  0, 0, /* state 4 */
+    1, 3, 51, 52, 0, 0,  0, 0, /* state 5 */
+    2, 1, 5,  1,  1, 15, 0, 0, /* the first row */
+    2, 2, 6,  1,  4, 26, 0, 0,
+    2, 3, 7,  1,  2, 37, 0, 0,
+    2, 3, 8,  1,  5, 38, 0, 0,
+    2, 4, 9,  0,  0, 49, 0, 0,
+    2, 4, 10, 1,  3, 40, 0, 0,
+    2, 5, 11, 1,  1, 59, 0, 0,
+};
+
+enum { SHIFT_BYTES = sizeof shift_chart, FIRST_ROW = 6 * RECORD_BYTES };
+
+/* A slot, one byte more for the slot that is too long, and guards on both sides. */
+static uint8_t memory[GUARD_BYTES + TRUNHOAC_SLOT_BYTES + 1 + GUARD_BYTES];
+static uint8_t *const slot = memory + GUARD_BYTES;
+
+static int passed;
+static int failed;
+
+static void expect(bool holds, const char *what)
+{
+    if (holds) {
+        passed++;
+    } else {
+        failed++;
+        printf("failed: %s\n", what);
+    }
+}
+
+static bool still_filled(const uint8_t *from, const uint8_t *to)
+{
+    while (from < to && *from == FILL)
+        from++;
+    return from == to;
+}
+
+static bool untouched(void)
+{
+    return still_filled(memory, memory + sizeof memory);
+}
+
+/* Every byte of the slot was written, and none outside it. */
+static bool written(void)
+{
+    const uint8_t *end = slot + TRUNHOAC_SLOT_BYTES;
+    return memchr(slot, FILL, TRUNHOAC_SLOT_BYTES) == NULL
+        && still_filled(memory, slot)
+        && still_filled(end, memory + sizeof memory);
+}
+
+static uint32_t flatten(const uint8_t *chart, size_t length, size_t slot_length)
+{
+    memset(memory, FILL, sizeof memory);
+    return chart_flatten(chart, length, slot, slot_length);
+}
+
+/* The row at the offset has these first bytes, and zeros after them. */
+static void expect_row(size_t offset, const uint8_t *first, size_t count, const char *what)
+{
+    uint8_t row[ROW_BYTES] = {0};
+    memcpy(row, first, count);
+    expect(memcmp(slot + offset, row, ROW_BYTES) == 0, what);
+}
+
+static void test_shift_chart(void)
+{
+    static const uint8_t start[] = {2, 2, 4, 10, 11, 13, 21};
+    static const uint8_t four_by_eight[] = {5, 2, 3, 42, 38, 51};
+    static const uint8_t two_by_nine[] = {2, 0, 0};
+    static const uint8_t absent_state[] = {0};
+
+    expect(chart_check(shift_chart, SHIFT_BYTES) == 0, "the shift chart is good");
+    expect(flatten(shift_chart, SHIFT_BYTES, TRUNHOAC_SLOT_BYTES) == 0, "and is flattened");
+    expect(written(), "the whole slot is written, and nothing else");
+    expect_row(0, start, sizeof start, "the start row");
+    expect_row(2136, four_by_eight, sizeof four_by_eight, "the row of state 4 and signal 8");
+    expect_row(816, two_by_nine, sizeof two_by_nine, "the row of state 2 and signal 9, ignored");
+    expect_row(16128, absent_state, sizeof absent_state, "the last row, of an absent state");
+}
+
+static void expect_class(uint32_t class, const uint8_t *chart, size_t length, const char *what)
+{
+    expect(chart_check(chart, length) == class, what);
+    expect(flatten(chart, length, TRUNHOAC_SLOT_BYTES) == class && untouched(), what);
+    expect(flatten(chart, length, 1) == class && untouched(), what);
+}
+
+/* The shift chart with one byte changed. */
+static const uint8_t *changed(size_t place, uint8_t value)
+{
+    static uint8_t chart[SHIFT_BYTES];
+    memcpy(chart, shift_chart, SHIFT_BYTES);
+    chart[place] = value;
+    return chart;
+}
+
+static void test_classes(void)
+{
+    static const uint8_t too_long[TOO_LONG_BYTES] = {0};
+
+    expect_class(1, NULL, 0, "class 1: no chart");
+    expect_class(1, shift_chart, 0, "class 1: length 0");
+    expect_class(1, shift_chart, SHIFT_BYTES - 1, "class 1: not a multiple of 8");
+    expect_class(1, too_long, TOO_LONG_BYTES, "class 1: too long");
+    expect_class(2, shift_chart, RECORD_BYTES, "class 2: no state");
+    expect_class(2, changed(0, 4), SHIFT_BYTES, "class 2: unknown kind");
+    expect_class(2, changed(FIRST_ROW, 3), SHIFT_BYTES, "class 2: kinds out of order");
+    expect_class(2, changed(SHIFT_BYTES - 1, 1), SHIFT_BYTES, "class 2: last filler byte");
+    expect_class(3, changed(1, 6), SHIFT_BYTES, "class 3: top target absent");
+    expect_class(3, changed(RECORD_BYTES + 1, 1), SHIFT_BYTES, "class 3: a state in itself");
+    expect_class(3, changed(RECORD_BYTES + 4, 1), SHIFT_BYTES, "class 3: initial to itself");
+    expect_class(4, changed(FIRST_ROW + 2, 3), SHIFT_BYTES, "class 4: signal 3");
+    expect_class(4, changed(FIRST_ROW + 4, 6), SHIFT_BYTES, "class 4: target absent");
+    expect_class(4, changed(FIRST_ROW + 1, 3), SHIFT_BYTES, "class 4: rows not ascending");
+}
+
+static void test_slot_lengths(void)
+{
+    static const size_t lengths[] = {0, TRUNHOAC_SLOT_BYTES - 1, TRUNHOAC_SLOT_BYTES + 1};
+
+    for (size_t i = 0; i < sizeof lengths / sizeof lengths[0]; i++)
+        expect(flatten(shift_chart, SHIFT_BYTES, lengths[i]) == 5 && untouched(),
+               "a slot of another length");
+    expect(chart_flatten(shift_chart, SHIFT_BYTES, NULL, 0) == 5, "no slot");
+}
+
+/* However a chart is damaged, it is answered, and the slot is written whole or not at all. */
+static void test_damage(size_t place, uint8_t value)
+{
+    const uint8_t *chart = changed(place, value);
+    uint32_t class = chart_check(chart, SHIFT_BYTES);
+    uint32_t answer = flatten(chart, SHIFT_BYTES, TRUNHOAC_SLOT_BYTES);
+    char what[64];
+
+    snprintf(what, sizeof what, "byte %zu changed to %u", place, (unsigned)value);
+    expect(class <= 4 && answer == class && (class == 0 ? written() : untouched()), what);
+}
+
+static void test_damaged_charts(void)
+{
+    static const uint8_t values[] = {0, 1, 2, 3, 4, 5, 6, 31, 32, 127, 128, 255};
+
+    for (size_t place = 0; place < SHIFT_BYTES; place++)
+        for (size_t i = 0; i < sizeof values; i++)
+            test_damage(place, values[i]);
+}
+
+int main(void)
+{
+    test_shift_chart();
+    test_classes();
+    test_slot_lengths();
+    test_damaged_charts();
+    printf("%d passed, %d failed\n", passed, failed);
+    return failed == 0 ? EXIT_SUCCESS : EXIT_FAILURE;
+}

@@ -1,0 +1,390 @@
+-- What an accepted chart has: its states lie at most six deep, initial targets lie below, rows name states. From this, that a step lists at
+-- most 18 actions and ends in a state, and that the bounds of the definitions cut nothing off.
+use mathlib.Core.Bool.{Bool, true, false, cond, not, _&&_, _||_}
+use mathlib.Core.List.{List, [], _∷_, _++_}
+use mathlib.Core.Logic.{⊎-elim}
+use mathlib.Core.Path.{_≡_, refl, sym, ap, _∙_}
+use Prim.Native.Nat.{ℕ, zero, suc, _+_, _*_, _%_, _≤_, _<_}
+use native.Mathlib.Nat.{le-refl}
+use native.Mathlib.Omega.{arith}
+use borrow.Author.Tests.{eq-eqb, ne-eqb, eqb-true, eqb-false, leb-true, leb-false, ltb-true}
+use lib.Dec.{eqb, leb, ltb}
+use lib.ListN.{length, getD, length-append}
+use Rattle.ground.specs.Bools.{no-yes, and-left, and-right, or-right, cond-pick, cond-else, eq-or}
+use Rattle.ground.specs.Every.{every-at}
+use Rattle.ground.specs.Range.{every}
+use Rattle.ground.specs.Search.{first-is}
+use Rattle.chart.specs.Chart.{classOf, lengthOk, formsOk, treeOk, rowsOk, states, records, formOk, stateOk, rowOk, among, isSignal, path, outward, parent, has, byte, rowFor, recordAt, topTarget, topAction}
+use Rattle.chart.specs.Held.{formAt, kindAt, stateAt, rowGood, hasRow, up, within, settled, settling}
+use Rattle.chart.specs.Step.{Answer, upTo, leave, enter, listed, firstOf, source, limit, moved, step, start}
+use Rattle.chart.proofs.Laws.{path-top, path-cons, level-same}
+use Rattle.chart.proofs.Steps.{settle-is}
+use Rattle.chart.proofs.Walk.{settled-stop, settled-suc, settling-stop, settling-suc}
+
+-- ## Accepted
+pub record Accepted (d : List ℕ) : Type 0 where
+  pub fits : lengthOk d ≡ true
+  pub forms : formsOk (states d) d ≡ true
+  pub tree : treeOk (states d) d ≡ true
+  pub rows : rowsOk (states d) d ≡ true
+
+class-go : (a b c e : Bool) → _≡_ {A = ℕ} (cond a (cond b (cond c (cond e 0 4) 3) 2) 1) 0 → (a ≡ true) × (b ≡ true) × (c ≡ true) × (e ≡ true)
+class-go true true true true q = (refl, refl, refl, refl)
+class-go true true true false q = absurd (omega arith)
+class-go true true false e q = absurd (omega arith)
+class-go true false c e q = absurd (omega arith)
+class-go false b c e q = absurd (omega arith)
+
+pub accepted : (d : List ℕ) → classOf d ≡ 0 → Accepted d
+unfolding classOf
+accepted d e =
+    let h = class-go (lengthOk d) (formsOk (states d) d) (treeOk (states d) d) (rowsOk (states d) d) e in
+    record { fits = h .0; forms = h .1; tree = h .2; rows = h .3 }
+
+pub among-of : (n s : ℕ) → among n s ≡ true → (1 ≤ s) × (s ≤ n)
+unfolding among
+among-of n s e = (leb-true 1 s (and-left (leb 1 s) (leb s n) e), leb-true s n (and-right (leb 1 s) (leb s n) e))
+
+pub signal-of : (g : ℕ) → isSignal g ≡ true → (4 ≤ g) × (g ≤ 31)
+unfolding isSignal
+signal-of g e = (leb-true 4 g (and-left (leb 4 g) (leb g 31) e), leb-true g 31 (and-right (leb 4 g) (leb g 31) e))
+
+pub size-of : (d : List ℕ) → lengthOk d ≡ true → length d ≤ 5576
+unfolding lengthOk
+size-of d e = leb-true (length d) 5576 (and-right (eqb (length d % 8) 0) _ (and-right (not (eqb (length d) 0)) _ e))
+
+pub few : (n : ℕ) (d : List ℕ) → formsOk n d ≡ true → (1 ≤ n) × (n ≤ 24)
+unfolding formsOk
+few n d e = among-of 24 n (and-right (every (formAt n d) 0 (records d)) _ e)
+
+pub few-states : (d : List ℕ) → classOf d ≡ 0 → states d ≤ 24
+few-states d z = few (states d) d (accepted d z .forms) .1
+
+-- ## Going outward
+module _ (d : List ℕ) where
+  up-parent : (k s : ℕ) → up (suc k) d s ≡ parent d (up k d s)
+  unfolding up
+  up-parent zero s = refl
+  up-parent (suc k) s = up-parent k (parent d s)
+
+  up-stays : (k s : ℕ) → up k d s ≡ 0 → up (suc k) d s ≡ 0
+  unfolding parent
+  up-stays k s e = up-parent k s ∙ ap (parent d) e
+
+  path-stays : (k s : ℕ) → up k d s ≡ 0 → path (suc k) d s ≡ path k d s
+  path-stays zero s e = unfold up path in rw (eq-eqb s 0 e)
+  path-stays (suc k) s e =
+      ⊎-elim
+      (λ z. path-top d (suc (suc k)) s z ∙ sym (path-top d (suc k) s z))
+      (λ n. rw (path-cons d (suc k) s n, path-cons d k s n, path-stays k (parent d s) (unfold up in e)))
+      (eq-or s 0)
+
+  -- more turns than reach the top add nothing
+  pub path-longer : (j k s : ℕ) → up k d s ≡ 0 → path (j + k) d s ≡ path k d s
+  path-longer zero k s e = let z : 0 + k ≡ k = omega arith in rw z refl
+  path-longer (suc j) k s e =
+      let z : suc j + k ≡ suc (j + k) = omega arith in
+      rw z (path-stays (j + k) s (up-longer j k s e) ∙ path-longer j k s e)
+    where
+      up-longer : (j k s : ℕ) → up k d s ≡ 0 → up (j + k) d s ≡ 0
+      up-longer zero k s e = let z : 0 + k ≡ k = omega arith in rw z e
+      up-longer (suc j) k s e = let z : suc j + k ≡ suc (j + k) = omega arith in rw z (up-stays (j + k) s (up-longer j k s e))
+
+  -- the way outward from a state that lies at most six deep, with no bound
+  outward-cons : (s : ℕ) → (s ≡ 0 → ⊥) → up 6 d s ≡ 0 → outward d s ≡ s ∷ outward d (parent d s)
+  outward-cons s n e = path-cons d 5 s n ∙ ap (λ p. s ∷ p) (sym (path-stays 5 (parent d s) (unfold up in e)))
+
+  path-length : (k s : ℕ) → length (path k d s) ≤ k
+  path-length zero s = unfold path in le-refl 0
+  path-length (suc k) s =
+      ⊎-elim
+      (λ z. rw (path-top d (suc k) s z) (omega arith))
+      (λ n. rw (path-cons d k s n) (let h = path-length k (parent d s) in omega arith))
+      (eq-or s 0)
+
+  has-nil : (x : ℕ) {A : Type 0} → has x [] ≡ true → A
+  unfolding has
+  has-nil x e = no-yes e
+
+  has-later : (x s : ℕ) (p : List ℕ) → (s ≡ x → ⊥) → has x (s ∷ p) ≡ true → has x p ≡ true
+  unfolding has
+  has-later x s p n e = rw (ne-eqb s x n) at e
+
+  -- x is on the way outward from s: it is s, or further on
+  on-path : {P : Type 0} (k x s : ℕ) → has x (path (suc k) d s) ≡ true
+      → ((s ≡ 0 → ⊥) → s ≡ x → P)
+      → ((s ≡ 0 → ⊥) → (s ≡ x → ⊥) → has x (path k d (parent d s)) ≡ true → P)
+      → P
+  on-path k x s h here later =
+      ⊎-elim
+      (λ z. has-nil x (rw (path-top d (suc k) s z) at h))
+      (λ n. ⊎-elim (here n) (λ q. later n q (has-later x s (path k d (parent d s)) q (rw (path-cons d k s n) at h))) (eq-or s x))
+      (eq-or s 0)
+
+  -- what contains a state that lies at most k deep lies so too
+  up-of : (k x s : ℕ) → up k d s ≡ 0 → has x (path k d s) ≡ true → up k d x ≡ 0
+  up-of zero x s e h = unfold path in has-nil x h
+  up-of (suc k) x s e h = on-path k x s h (λ n q. rw (← q) e) (λ n q g. up-stays k x (up-of k x (parent d s) (unfold up in e) g))
+
+  up-to-at : (x s : ℕ) (p : List ℕ) → s ≡ x → upTo x (s ∷ p) ≡ []
+  unfolding upTo
+  up-to-at x s p e = rw (eq-eqb s x e)
+
+  up-to-more : (x s : ℕ) (p : List ℕ) → (s ≡ x → ⊥) → upTo x (s ∷ p) ≡ s ∷ upTo x p
+  unfolding upTo
+  up-to-more x s p n = rw (ne-eqb s x n)
+
+  -- the states below x on the way from s, and those from x on, are all
+  depth-from : (k x s : ℕ) → up k d s ≡ 0 → has x (path k d s) ≡ true → length (upTo x (path k d s)) + length (path k d x) ≡ length (path k d s)
+  depth-from zero x s e h = unfold path in has-nil x h
+  depth-from (suc k) x s e h =
+      on-path k x s h
+      (λ n q. let r : s ≡ x = q in rw (← r, path-cons d k s n, up-to-at s s (path k d (parent d s)) refl) (omega arith))
+      (λ n q g.
+      let ih = depth-from k x (parent d s) (unfold up in e) g in
+      let st = path-stays k x (up-of k x (parent d s) (unfold up in e) g) in
+      rw (path-cons d k s n, up-to-more x s (path k d (parent d s)) q, st) (omega arith))
+
+  depth-of : (x s : ℕ) → up 6 d s ≡ 0 → has x (outward d s) ≡ true → length (upTo x (outward d s)) + length (outward d x) ≡ length (outward d s)
+  depth-of x s e h = depth-from 6 x s e h
+
+  -- ## Lengths
+  listed-length : (a : ℕ) → length (listed a) ≤ 1
+  unfolding listed
+  listed-length a = cond-pick (λ (l : List ℕ). length l ≤ 1) (eqb a 0) [] (a ∷ []) (λ e. omega arith) (λ e. omega arith)
+
+  leave-length : (p : List ℕ) → length (leave d p) ≤ length p
+  unfolding leave
+  leave-length [] = le-refl 0
+  leave-length (s ∷ p) = rw (length-append (listed (byte d s 3)) (leave d p)) (omega (arith, listed-length (byte d s 3), leave-length p))
+
+  enter-length : (p : List ℕ) → length (enter d p) ≤ length p
+  unfolding enter
+  enter-length [] = le-refl 0
+  enter-length (s ∷ p) = rw (length-append (enter d p) (listed (byte d s 2))) (omega (arith, listed-length (byte d s 2), enter-length p))
+
+  up-to-length : (x : ℕ) (p : List ℕ) → length (upTo x p) ≤ length p
+  up-to-length x [] = unfold upTo in le-refl 0
+  up-to-length x (s ∷ p) =
+      ⊎-elim
+      (λ q. rw (up-to-at x s p q) (omega arith))
+      (λ q. rw (up-to-more x s p q) (let h = up-to-length x p in omega arith))
+      (eq-or s x)
+
+-- ## The states of an accepted chart
+pub record State (d : List ℕ) (s : ℕ) : Type 0 where
+  pub low : 1 ≤ s
+  pub high : s ≤ states d
+
+pub state-of : (d : List ℕ) (s : ℕ) → among (states d) s ≡ true → State d s
+state-of d s e = let h = among-of (states d) s e in record { low = h .0; high = h .1 }
+
+module _ (d : List ℕ) (acc : Accepted d) where
+  state-ok : (s : ℕ) → State d s → stateAt (states d) d s ≡ true
+  unfolding treeOk
+  state-ok s h =
+      let u = h .high in
+      every-at (stateAt (states d) d) 1 (states d + 1) s (and-right (among (states d) (topTarget d)) _ (acc .tree)) (h .low) (omega arith)
+
+  pub top-state : State d (topTarget d)
+  unfolding treeOk
+  top-state = state-of d (topTarget d) (and-left (among (states d) (topTarget d)) (every (stateAt (states d) d) 1 (states d + 1)) (acc .tree))
+
+  pub state-up : (s : ℕ) → State d s → up 6 d s ≡ 0
+  unfolding stateOk
+  state-up s h =
+      eqb-true (up 6 d s) 0
+      (level-same d 6 s ∙ and-left (leb (length (path 7 d s)) 6) _ (and-right (ltb (getD (recordAt d s) 1 0) s) _ (state-ok s h)))
+
+  initial-in : (s : ℕ) → State d s → (byte d s 4 ≡ 0 → ⊥) → within (states d) d s (byte d s 4) ≡ true
+  unfolding stateOk byte
+  initial-in s h n =
+      cond-else (eqb (getD (recordAt d s) 4 0) 0) _ _ (ne-eqb _ _ n)
+      (and-right (leb (length (path 7 d s)) 6) _ (and-right (ltb (getD (recordAt d s) 1 0) s) _ (state-ok s h)))
+
+  initial-state : (s : ℕ) → State d s → (byte d s 4 ≡ 0 → ⊥) → State d (byte d s 4)
+  initial-state s h n = state-of d (byte d s 4) (and-left (among (states d) (byte d s 4)) _ (initial-in s h n))
+
+  not-top : (s : ℕ) → State d s → s ≡ 0 → ⊥
+  not-top s h e = let g = h .low in omega arith
+
+  state-cons : (s : ℕ) → State d s → outward d s ≡ s ∷ outward d (parent d s)
+  state-cons s h = outward-cons d s (not-top s h) (state-up s h)
+
+  -- s lies less deep than its initial target, by the entries between
+  initial-deeper : (s : ℕ) → State d s → (byte d s 4 ≡ 0 → ⊥)
+      → (length (upTo s (outward d (byte d s 4))) + length (outward d s) ≡ length (outward d (byte d s 4))) × (length (outward d s) < length (outward d (byte d s 4)))
+  initial-deeper s h n =
+      let t = byte d s 4 in
+      let g = initial-state s h n in
+      let u : up 5 d (parent d t) ≡ 0 = unfold up in state-up t g in
+      let v : up 6 d (parent d t) ≡ 0 = up-stays d 5 (parent d t) u in
+      let i = and-right (among (states d) t) (has s (outward d (parent d t))) (initial-in s h n) in
+      let e = state-cons t g in
+      let f : has s (outward d t) ≡ true = rw e (unfold has in or-right (eqb t s) (has s (outward d (parent d t))) i) in
+      let l : length (outward d t) ≡ suc (length (outward d (parent d t))) = ap length e in
+      (depth-of d s t (state-up t g) f, omega (arith, depth-of d s (parent d t) v i))
+
+  settling-bound : (k s : ℕ) → State d s → length (settling k d s) + 2 * length (outward d s) ≤ 12
+  settling-bound zero s h = unfold settling in omega (arith, path-length d 6 s)
+  settling-bound (suc k) s h =
+      ⊎-elim
+      (λ e. rw (settling-stop d (suc k) s e) (omega (arith, path-length d 6 s)))
+      (λ n.
+      let t = byte d s 4 in
+      let ih = settling-bound k t (initial-state s h n) in
+      let w = initial-deeper s h n in
+      let a = listed-length d (byte d s 5) in
+      let b = enter-length d (upTo s (outward d t)) in
+      rw (settling-suc d k s n, length-append (listed (byte d s 5)) (enter d (upTo s (outward d t)) ++ settling k d t), length-append (enter d (upTo s (outward d t))) (settling k d t))
+      (omega (arith, w .0, w .1)))
+      (eq-or (byte d s 4) 0)
+
+  settled-state : (k s : ℕ) → State d s → State d (settled k d s)
+  settled-state zero s h = unfold settled in h
+  settled-state (suc k) s h =
+      ⊎-elim
+      (λ e. rw (settled-stop d (suc k) s e) h)
+      (λ n. rw (settled-suc d k s n) (settled-state k (byte d s 4) (initial-state s h n)))
+      (eq-or (byte d s 4) 0)
+
+  pub parent-low : (s : ℕ) → State d s → parent d s < s
+  unfolding stateOk byte parent
+  parent-low s h = rw (ne-eqb s 0 (not-top s h)) (ltb-true (getD (recordAt d s) 1 0) s (and-left (ltb (getD (recordAt d s) 1 0) s) _ (state-ok s h)))
+
+  -- ## Rows
+  kind-go : (a b : Bool) → _≡_ {A = ℕ} (cond a 3 (cond b 1 2)) 2 → b ≡ false
+  kind-go true b e = absurd (omega arith)
+  kind-go false true e = absurd (omega arith)
+  kind-go false false e = refl
+
+  -- the row of a state and a signal, where there is one, is a good one
+  row-good : (s g : ℕ) → rowFor d s g < records d → rowGood (states d) d (rowFor d s g) ≡ true
+  unfolding rowFor formsOk rowsOk formOk byte
+  row-good s g r =
+      let i = rowFor d s g in
+      let p : ℕ → Bool = λ j. eqb (byte d j 0) 2 && (eqb (byte d j 1) s && eqb (byte d j 2) g) in
+      let f = first-is p 0 (records d) .passes (omega arith) in
+      let k = eqb-true (getD (recordAt d i) 0 0) 2 (and-left (eqb (getD (recordAt d i) 0 0) 2) _ f) in
+      let m = every-at (formAt (states d) d) 0 (records d) i (and-left (every (formAt (states d) d) 0 (records d)) _ (acc .forms)) (omega arith) r in
+      let q = eqb-true (getD (recordAt d i) 0 0) (kindAt (states d) i) (and-left (eqb (getD (recordAt d i) 0 0) (kindAt (states d) i)) _ m) in
+      let l = leb-false i (states d) (kind-go (eqb i 0) (leb i (states d)) (sym q ∙ k)) in
+      every-at (rowGood (states d) d) (states d + 1) (records d) i (acc .rows) (omega arith) r
+
+  row-target : (s g : ℕ) → rowFor d s g < records d → (byte d (rowFor d s g) 3 ≡ 0 → ⊥) → State d (byte d (rowFor d s g) 4)
+  unfolding rowOk byte
+  row-target s g n z =
+      let i = rowFor d s g in
+      let r = recordAt d i in
+      let a = and-right (isSignal (getD r 2 0)) _ (and-right (among (states d) (getD r 1 0)) _ (row-good s g n)) in
+      let t = and-left (cond (eqb (getD r 3 0) 0) (eqb (getD r 4 0) 0) (eqb (getD r 3 0) 1 && among (states d) (getD r 4 0))) _ a in
+      let q = cond-else (eqb (getD r 3 0) 0) _ _ (ne-eqb (getD r 3 0) 0 z) t in
+      state-of d (getD r 4 0) (and-right (eqb (getD r 3 0) 1) _ q)
+
+  -- ## Steps
+  -- the first that passes is on the way outward
+  first-has : (p : ℕ → Bool) (l : List ℕ) → (firstOf p l ≡ 0 → ⊥) → (p (firstOf p l) ≡ true) × (has (firstOf p l) l ≡ true)
+  unfolding firstOf has
+  first-has p [] n = absurd (n refl)
+  first-has p (s ∷ l) n =
+      cond-pick (λ (r : ℕ). (r ≡ 0 → ⊥) → (p r ≡ true) × ((eqb s r || has r l) ≡ true)) (p s) s (firstOf p l)
+      (λ e z. (e, rw (eq-eqb s s refl)))
+      (λ e z. let h = first-has p l z in (h .0, or-right (eqb s (firstOf p l)) _ (h .1)))
+      n
+
+  moved-bound : (x s t a : ℕ) → State d x → has s (outward d x) ≡ true → State d t → length (moved d x s t a .acts) ≤ 18
+  unfolding moved
+  moved-bound x s t a h i g =
+      let l = limit d s t in
+      let p = leave d (upTo s (outward d x)) in
+      let q = leave d (upTo l (outward d s)) in
+      let r = listed a in
+      let u = enter d (upTo l (outward d t)) in
+      let v = settling 6 d t in
+      let e0 = length-append (p ++ (q ++ (r ++ u))) v in
+      let e1 = length-append p (q ++ (r ++ u)) in
+      let e2 = length-append q (r ++ u) in
+      let e3 = length-append r u in
+      let b1 = leave-length d (upTo s (outward d x)) in
+      let b2 = leave-length d (upTo l (outward d s)) in
+      let b3 = up-to-length d l (outward d s) in
+      let b4 = listed-length d a in
+      let b5 = enter-length d (upTo l (outward d t)) in
+      let b6 = up-to-length d l (outward d t) in
+      let b7 = settling-bound 6 t g in
+      let b8 : length (outward d t) ≡ suc (length (outward d (parent d t))) = ap length (state-cons t g) in
+      let b9 = depth-of d s x (state-up x h) i in
+      rw (settle-is d 6 t (p ++ (q ++ (r ++ u)))) (omega (arith, path-length d 6 x))
+
+  pub start-bound : length (start d .acts) ≤ 18
+  unfolding start
+  start-bound =
+      let t = topTarget d in
+      let l = listed (topAction d) ++ enter d (outward d t) in
+      let e1 = length-append l (settling 6 d t) in
+      let e2 = length-append (listed (topAction d)) (enter d (outward d t)) in
+      let b1 = listed-length d (topAction d) in
+      let b2 = enter-length d (outward d t) in
+      let b3 = settling-bound 6 t top-state in
+      rw (settle-is d 6 t l) (omega (arith, path-length d 6 t))
+
+  pub start-state : State d (start d .next)
+  unfolding start
+  start-state = rw (settle-is d 6 (topTarget d) (listed (topAction d) ++ enter d (outward d (topTarget d)))) (settled-state 6 (topTarget d) top-state)
+
+  moved-state : (x s t a : ℕ) → State d t → State d (moved d x s t a .next)
+  unfolding moved
+  moved-state x s t a h = rw (settle-is d 6 t _) (settled-state 6 t h)
+
+  moved-outcome : (x s t a : ℕ) → moved d x s t a .outcome ≤ 2
+  unfolding moved
+  moved-outcome x s t a = rw (settle-is d 6 t _) (omega arith)
+
+  -- what holds of each kind of answer holds of a step
+  step-cases : (P : Answer → Type 0) (x g : ℕ)
+      → P (record { next = x; outcome = 0; acts = [] })
+      → ((i : ℕ) → P (record { next = x; outcome = 1; acts = listed (byte d i 5) }))
+      → ((s t a : ℕ) → has s (outward d x) ≡ true → State d t → P (moved d x s t a))
+      → P (step d x g)
+  unfolding step
+  step-cases P x g f0 f1 f2 =
+      cond-pick P (eqb (source d x g) 0) _ _ (λ e. f0)
+      (λ e.
+      let s = source d x g in
+      let i = rowFor d s g in
+      let w = first-has (hasRow d g) (outward d x) (eqb-false (source d x g) 0 e) in
+      cond-pick P (eqb (byte d i 3) 0) _ _ (λ q. f1 i)
+      (λ q. f2 s (byte d i 4) (byte d i 5) (w .1) (row-target s g (ltb-true i (records d) (w .0)) (eqb-false (byte d i 3) 0 q))))
+
+  pub step-bound : (x g : ℕ) → State d x → length (step d x g .acts) ≤ 18
+  step-bound x g h =
+      step-cases (λ r. length (r .acts) ≤ 18) x g (omega arith)
+      (λ i. omega (arith, listed-length d (byte d i 5)))
+      (λ s t a i k. moved-bound x s t a h i k)
+
+  pub step-state : (x g : ℕ) → State d x → State d (step d x g .next)
+  step-state x g h = step-cases (λ r. State d (r .next)) x g h (λ i. h) (λ s t a i k. moved-state x s t a k)
+
+  pub step-outcome : (x g : ℕ) → step d x g .outcome ≤ 2
+  step-outcome x g = step-cases (λ r. r .outcome ≤ 2) x g (omega arith) (λ i. omega arith) (λ s t a i k. moved-outcome x s t a)
+
+  pub start-outcome : start d .outcome ≤ 2
+  unfolding start
+  start-outcome = rw (settle-is d 6 (topTarget d) _) (omega arith)
+
+  -- ## What the bounds of the definitions do not cut off
+  settled-ends-from : (k s : ℕ) → State d s → 6 ≤ k + length (outward d s) → byte d (settled k d s) 4 ≡ 0
+  settled-ends-from zero s h b =
+      ⊎-elim
+      (λ e. rw (settled-stop d zero s e) e)
+      (λ n. absurd (omega (arith, initial-deeper s h n .1, path-length d 6 (byte d s 4))))
+      (eq-or (byte d s 4) 0)
+  settled-ends-from (suc k) s h b =
+      ⊎-elim
+      (λ e. rw (settled-stop d (suc k) s e) e)
+      (λ n. rw (settled-suc d k s n) (settled-ends-from k (byte d s 4) (initial-state s h n) (omega (arith, initial-deeper s h n .1))))
+      (eq-or (byte d s 4) 0)
+
+  -- six turns are enough: the state reached has no initial target
+  pub settled-ends : (s : ℕ) → State d s → byte d (settled 6 d s) 4 ≡ 0
+  settled-ends s h = settled-ends-from 6 s h (omega arith)

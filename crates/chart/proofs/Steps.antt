@@ -1,0 +1,71 @@
+-- Laws of `settle`, `moved`, `start` and `step`, as the code makes them of its parts.
+use mathlib.Core.List.{List, _++_, append-assoc, append-nil}
+use mathlib.Core.Logic.{⊎-elim}
+use mathlib.Core.Path.{_≡_, refl, sym, ap, _∙_}
+use Prim.Native.Nat.{ℕ, zero, suc, _+_}
+use native.Mathlib.Omega.{arith}
+use borrow.Author.Tests.{eq-eqb, ne-eqb}
+use Rattle.ground.specs.Bools.{eq-or}
+use Rattle.chart.specs.Chart.{path, outward, byte, topTarget, topAction, rowFor}
+use Rattle.chart.specs.Held.{noActs, pushAll, settled, settling, settledOut, outOf}
+use Rattle.chart.specs.Step.{upTo, leave, enter, listed, limit, source, settle, moved, start, step}
+use Rattle.chart.specs.declared.step.Out.{Out}
+use Rattle.chart.proofs.Walk.{push-append, up-to-top, settled-stop, settled-suc, settling-stop, settling-suc}
+
+module _ (d : List ℕ) where
+  settle-stop : (k s : ℕ) (l : List ℕ) → byte d s 4 ≡ 0 → settle k d s l ≡ record { next = s; outcome = 2; acts = l }
+  unfolding settle
+  settle-stop zero s l e = refl
+  settle-stop (suc k) s l e = rw (eq-eqb (byte d s 4) 0 e)
+
+  settle-suc : (k s : ℕ) (l : List ℕ) → (byte d s 4 ≡ 0 → ⊥)
+      → settle (suc k) d s l ≡ settle k d (byte d s 4) (l ++ (listed (byte d s 5) ++ enter d (upTo s (outward d (byte d s 4)))))
+  unfolding settle
+  settle-suc k s l n = rw (ne-eqb (byte d s 4) 0 n)
+
+  -- the settling is listed behind what was listed before
+  pub settle-is : (k s : ℕ) (l : List ℕ) → settle k d s l ≡ record { next = settled k d s; outcome = 2; acts = l ++ settling k d s }
+  settle-is zero s l = unfold settle settled settling in rw append-nil
+  settle-is (suc k) s l =
+      ⊎-elim
+      (λ e. rw (settle-stop (suc k) s l e, settled-stop d (suc k) s e, settling-stop d (suc k) s e, append-nil))
+      (λ n.
+      rw (settle-suc k s l n, settled-suc d k s n, settling-suc d k s n, settle-is k (byte d s 4) (l ++ (listed (byte d s 5) ++ enter d (upTo s (outward d (byte d s 4))))), append-assoc, append-assoc))
+      (eq-or (byte d s 4) 0)
+
+  -- more turns than reach a state without an initial target add nothing
+  pub settle-longer : (j k s : ℕ) (l : List ℕ) → byte d (settled k d s) 4 ≡ 0 → settle (j + k) d s l ≡ settle k d s l
+  settle-longer j zero s l e = settle-stop (j + 0) s l (unfold settled in e) ∙ sym (settle-stop zero s l (unfold settled in e))
+  settle-longer j (suc k) s l e =
+      let z : j + suc k ≡ suc (j + k) = omega arith in
+      ⊎-elim
+      (λ q. settle-stop (j + suc k) s l q ∙ sym (settle-stop (suc k) s l q))
+      (λ n. rw (z, settle-suc (j + k) s l n, settle-suc k s l n) (settle-longer j k (byte d s 4) _ (rw (settled-suc d k s n) at e)))
+      (eq-or (byte d s 4) 0)
+
+  settle-out : (t : ℕ) (l : List ℕ) → outOf (settle 6 d t l) ≡ settledOut d t (pushAll noActs l)
+  unfolding outOf settledOut
+  settle-out t l = rw (settle-is 6 t l, push-append noActs l (settling 6 d t))
+
+  pub moved-out : (x s t a l : ℕ) → l ≡ limit d s t
+      → settledOut d t (pushAll (pushAll (pushAll (pushAll noActs (leave d (upTo s (path 6 d x)))) (leave d (upTo l (path 6 d s)))) (listed a)) (enter d (upTo l (path 6 d t))))
+      ≡ outOf (moved d x s t a)
+  unfolding moved
+  moved-out x s t a l e = rw (e) (ap (settledOut d t) (push-append _ _ _ ∙ push-append _ _ _ ∙ push-append _ _ _) ∙ sym (settle-out t _))
+
+  pub start-out : settledOut d (topTarget d) (pushAll (pushAll noActs (listed (topAction d))) (enter d (upTo 0 (path 6 d (topTarget d))))) ≡ outOf (start d)
+  unfolding start
+  start-out = rw (up-to-top d 6 (topTarget d)) (ap (settledOut d (topTarget d)) (push-append _ _ _) ∙ sym (settle-out (topTarget d) _))
+
+  pub step-ignored : (x g : ℕ) → source d x g ≡ 0 → _≡_ {A = Out} (record { next = x; outcome = 0; acts = noActs }) (outOf (step d x g))
+  unfolding outOf step pushAll
+  step-ignored x g e = rw (eq-eqb (source d x g) 0 e)
+
+  module _ (x g s i : ℕ) (e : s ≡ source d x g) (n : s ≡ 0 → ⊥) (f : i ≡ rowFor d s g) where
+    pub step-internal : byte d i 3 ≡ 0 → _≡_ {A = Out} (record { next = x; outcome = 1; acts = pushAll noActs (listed (byte d i 5)) }) (outOf (step d x g))
+    unfolding outOf step
+    step-internal z = rw (← e, ne-eqb s 0 n, ← f, eq-eqb (byte d i 3) 0 z)
+
+    pub step-moved : (byte d i 3 ≡ 0 → ⊥) → outOf (moved d x s (byte d i 4) (byte d i 5)) ≡ outOf (step d x g)
+    unfolding outOf step
+    step-moved z = rw (← e, ne-eqb s 0 n, ← f, ne-eqb (byte d i 3) 0 z)

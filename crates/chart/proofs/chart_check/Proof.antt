@@ -1,0 +1,65 @@
+-- Each class from the tests passed before it.
+use borrow.Author.Needs.{needs}
+use mathlib.Core.Path.{sym, _∙_}
+use native.Mathlib.Omega.{arith}
+use Rattle.ground.specs.Bools.{refused, passed}
+use Rattle.chart.specs.Chart.{classOf}
+use Rattle.chart.proofs.Accepted.{few}
+use Rattle.chart.proofs.Laws.{states-le}
+use Rattle.chart.proofs.chart_check.Statement.{statement}
+use Rattle.chart.proofs.chart_check.Tie as tie
+
+returns : tie.Need-returns
+unfolding classOf
+returns c = simp (refused (c .before .length-ok .ensures) (c .if1 .taken))
+
+returns-2 : tie.Need-returns-2
+unfolding classOf
+returns-2 c = simp (passed (c .before .before .before .before .length-ok .ensures) (c .before .before .before .if1 .left), ← c .before .before .state-count .ensures, refused (c .before .forms-ok .ensures) (c .if2 .taken))
+
+tree-ok-requires : tie.Need-tree-ok-requires
+tree-ok-requires c κs =
+    let d = c .before .before .before .before .before .before .args .chart .now in
+    let f = few (c .before .before .state-count .result) d (passed (c .before .forms-ok .ensures) (c .if2 .left)) in
+    omega (arith, states-le d, c .before .before .state-count .ensures)
+
+returns-3 : tie.Need-returns-3
+unfolding classOf
+returns-3 c =
+    simp (
+      passed (c .before .before .before .before .before .before .length-ok .ensures) (c .before .before .before .before .before .if1 .left),
+      ← c .before .before .before .before .state-count .ensures,
+      passed (c .before .before .before .forms-ok .ensures) (c .before .before .if2 .left),
+      refused (c .before .tree-ok .ensures) (c .if3 .taken),
+    )
+
+rows-ok-requires : tie.Need-rows-ok-requires
+rows-ok-requires c κs = few (c .before .before .before .before .state-count .result) (c .before .before .before .before .before .before .before .before .args .chart .now) (passed (c .before .before .before .forms-ok .ensures) (c .before .before .if2 .left)) .1
+
+returns-4 : tie.Need-returns-4
+unfolding classOf
+returns-4 c =
+    simp (
+      passed (c .before .before .before .before .before .before .before .before .length-ok .ensures) (c .before .before .before .before .before .before .before .if1 .left),
+      ← c .before .before .before .before .before .before .state-count .ensures,
+      passed (c .before .before .before .before .before .forms-ok .ensures) (c .before .before .before .before .if2 .left),
+      passed (c .before .before .before .tree-ok .ensures) (c .before .before .if3 .left),
+      sym (c .before .rows-ok .ensures) ∙ c .if4 .taken,
+    )
+
+returns-5 : tie.Need-returns-5
+unfolding classOf
+returns-5 c =
+    simp (
+      passed (c .before .before .before .before .before .before .before .before .length-ok .ensures) (c .before .before .before .before .before .before .before .if1 .left),
+      ← c .before .before .before .before .before .before .state-count .ensures,
+      passed (c .before .before .before .before .before .forms-ok .ensures) (c .before .before .before .before .if2 .left),
+      passed (c .before .before .before .tree-ok .ensures) (c .before .before .if3 .left),
+      sym (c .before .rows-ok .ensures) ∙ c .if4 .left,
+    )
+
+pub chart-check-spec : {M : Type 1} → statement M
+chart-check-spec =
+    tie.close
+    (tie.spec (λ c κs. search needs) returns (λ c κs. search needs) (λ c κs. search needs) returns-2 tree-ok-requires returns-3 rows-ok-requires
+    returns-4 returns-5)

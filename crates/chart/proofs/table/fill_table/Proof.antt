@@ -1,0 +1,53 @@
+use borrow.Author.Needs.{needs}
+use borrow.Rule.Slice.PartMut.{same-len-mid}
+use mathlib.Core.List.{_++_}
+use mathlib.Core.Path.{_≡_, sym, ap, _∙_}
+use Prim.Native.Nat.{_≤_, _-_, _+_, _*_}
+use lib.ListN.{length, drop}
+use Rattle.chart.specs.Held.{rowBytes}
+use Rattle.chart.specs.Step.{start}
+use Rattle.chart.proofs.Accepted.{accepted, size-of, start-bound}
+use Rattle.chart.proofs.Rows.{rowsTo, row-same, first-row, row-turn, rows-done}
+use Rattle.chart.proofs.table.fill_table.Statement.{statement}
+use Rattle.chart.proofs.table.fill_table.Tie as tie
+
+abbrev Inv-loop : tie.InvT-loop
+Inv-loop chart table₀ n index k₀ table k = (k ≤ 672) × (length table ≡ 16152) × (table ≡ rowsTo chart k ++ drop (24 * k + 24) table₀)
+
+abbrev μ-loop : tie.MeasureT-loop
+μ-loop chart table₀ n index k₀ table k = 672 - k
+
+index-rows-requires : tie.Need-index-rows-requires Inv-loop μ-loop
+index-rows-requires c κs = size-of (c .before .before .before .args .chart .now) (accepted _ (c .before .before .before .pre .0) .fits)
+
+loop-holds : tie.Need-loop-holds Inv-loop μ-loop
+loop-holds c =
+    let d = c .before .before .before .before .before .before .before .before .before .args .chart .now in
+    let e = ap rowBytes (c .before .before .before .start-of .ensures) ∙ row-same (start d) (start-bound d (accepted d (c .before .before .before .before .before .before .before .before .before .pre .0))) in
+    (search needs, c .before .before .write-row .kept .0 ∙ c .before .before .before .before .before .before .before .before .before .pre .1, first-row d (c .before .before .write-row .last .0) (drop 24 (c .before .before .before .before .before .before .before .before .before .args .table .now)) (rw (← e) (c .before .before .write-row .ensures)))
+
+row-no-requires : tie.Need-row-no-requires Inv-loop μ-loop
+row-no-requires c κs = (c .before .before .before .before .before .before .before .before .before .before .before .before .before .pre .0, c .before .before .before .before .before .before .before .before .before .index-rows .ensures, c .before .before .before .before .before .before .before .before .before .before .state-count .ensures, c .before .before .loop-test .taken)
+
+loop-again : tie.Need-loop-again Inv-loop μ-loop
+loop-again c =
+    let t = c .before .before .before .before .before .before .before .loop .table in
+    let k = c .before .before .before .before .before .before .before .loop .k in (
+      search needs,
+      same-len-mid (24 * k + 24) (length t - (24 * k + 24)) t (c .before .before .write-row2 .last .0) (c .before .before .write-row2 .kept .0) ∙ c .before .before .before .before .before .before .before .loop .inv .1,
+      rw (c .before .before .write-row2 .ensures) (row-turn (c .before .before .before .before .before .before .before .before .before .before .before .before .before .before .before .before .before .args .chart .now) k (c .before .before .before .before .before .before .before .before .before .before .write-row .last .0) t _ (c .before .before .before .row-no .ensures) (c .before .before .before .before .before .before .before .loop .inv .2)),
+    )
+
+same-length : tie.Need-same-length Inv-loop μ-loop
+same-length c = c .before .loop .inv .1 ∙ sym (c .before .before .before .before .before .before .before .before .before .before .before .pre .1)
+
+returns : tie.Need-returns Inv-loop μ-loop
+returns c =
+    rows-done (c .before .before .before .before .before .before .before .before .before .before .before .args .chart .now) (c .before .loop .k) (c .before .before .before .before .write-row .last .0) (c .before .loop .table) (c .before .loop .inv .0) (c .loop-test .left) (c .before .before .before .before .write-row .kept .0 ∙ c .before .before .before .before .before .before .before .before .before .before .before .pre .1) (c .before .loop .inv .2)
+
+pub fill-table-spec : {M : Type 1} → statement M
+fill-table-spec =
+    tie.close
+    (tie.spec Inv-loop μ-loop (λ c κs. search needs) index-rows-requires (λ c κs. search needs) (λ c κs. search needs) loop-holds (λ c. search needs)
+    (λ c. search needs) (λ c. search needs) (λ c. search needs) (λ c. search needs) row-no-requires (λ c κs. search needs) (λ c. search needs)
+    (λ c. search needs) loop-again same-length returns)

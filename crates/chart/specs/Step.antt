@@ -1,0 +1,74 @@
+-- Document 01, "A step.": what a chart d does with a signal.
+use mathlib.Core.Bool.{Bool, cond}
+use mathlib.Core.List.{List, [], _∷_, _++_}
+use Prim.Native.Nat.{ℕ, zero, suc}
+use lib.Dec.{eqb, ltb}
+use Rattle.chart.specs.Chart.{byte, records, parent, entryOf, exitOf, initial, initialAction, topTarget, topAction, rowFor, outward, has}
+use Rattle.chart.specs.Numbers.{levels}
+
+-- The state of rest after the step, the outcome (0 ignored, 1 internal, 2 transition), and the actions in order.
+pub record Answer : Type 0 where
+  pub next : ℕ
+  pub outcome : ℕ
+  pub acts : List ℕ
+
+-- Actions 0 are not listed.
+unfoldable pub listed : ℕ → List ℕ
+listed a = cond (eqb a 0) [] (a ∷ [])
+
+-- The states of an outward path up to, not including, l; all of them where l is not there.
+unfoldable pub upTo : ℕ → List ℕ → List ℕ
+upTo l [] = []
+upTo l (s ∷ ss) = cond (eqb s l) [] (s ∷ upTo l ss)
+
+-- Exits along an outward path, the innermost first; entries, the outermost first.
+unfoldable pub leave : List ℕ → List ℕ → List ℕ
+leave d [] = []
+leave d (s ∷ ss) = listed (exitOf d s) ++ leave d ss
+
+unfoldable pub enter : List ℕ → List ℕ → List ℕ
+enter d [] = []
+enter d (s ∷ ss) = enter d ss ++ listed (entryOf d s)
+
+-- The first state of an outward path that passes the test; 0, the top: none.
+unfoldable pub firstOf : (ℕ → Bool) → List ℕ → ℕ
+firstOf p [] = 0
+firstOf p (s ∷ ss) = cond (p s) s (firstOf p ss)
+
+-- From the state of rest x outward to the first state, the source, with a row for the signal g.
+abbrev pub source : List ℕ → ℕ → ℕ → ℕ
+source d x g = firstOf (λ s. ltb (rowFor d s g) (records d)) (outward d x)
+
+-- Up to it the source s is left, from it t is entered: the innermost state that contains, or is, both; if t is s, the state that contains s.
+unfoldable pub limit : List ℕ → ℕ → ℕ → ℕ
+limit d s t = cond (eqb s t) (parent d s) (firstOf (λ x. has x (outward d t)) (outward d s))
+
+-- While the state reached, s, has an initial target: its initial action, then entries down to that target. k bounds the turns.
+unfoldable pub settle : ℕ → List ℕ → ℕ → List ℕ → Answer
+settle zero d s l = record { next = s; outcome = 2; acts = l }
+settle (suc k) d s l =
+    let t = initial d s in
+    cond (eqb t 0) (record { next = s; outcome = 2; acts = l })
+    (settle k d t (l ++ (listed (initialAction d s) ++ enter d (upTo s (outward d t)))))
+
+-- The transition from rest x by a row of the source s with target t and action a: exits from x to s and from s, the action, entries to t.
+unfoldable pub moved : List ℕ → ℕ → ℕ → ℕ → ℕ → Answer
+moved d x s t a =
+    settle levels d t
+    (leave d (upTo s (outward d x))
+    ++ (leave d (upTo (limit d s t) (outward d s))
+    ++ (listed a
+    ++ enter d (upTo (limit d s t) (outward d t)))))
+
+-- Row i is (2, state, signal, kind, target, action, 0, 0), kind 0 internal.
+unfoldable pub step : List ℕ → ℕ → ℕ → Answer
+step d x g =
+    let s = source d x g in
+    let i = rowFor d s g in
+    cond (eqb s 0) (record { next = x; outcome = 0; acts = [] })
+    (cond (eqb (byte d i 3) 0) (record { next = x; outcome = 1; acts = listed (byte d i 5) })
+    (moved d x s (byte d i 4) (byte d i 5)))
+
+-- Start: top action, entries, then the same.
+unfoldable pub start : List ℕ → Answer
+start d = settle levels d (topTarget d) (listed (topAction d) ++ enter d (outward d (topTarget d)))

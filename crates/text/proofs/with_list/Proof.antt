@@ -1,0 +1,28 @@
+-- The line keeps within its 128 bytes; the measure is what is left of the bytes.
+use Prim.Native.Nat.{_≤_, _-_}
+use lib.ListN.{length}
+use borrow.Author.Needs.{needs}
+use Rattle.text.proofs.with_list.Statement.{statement}
+use Rattle.text.proofs.with_list.Tie as tie
+
+abbrev Inv-loop : tie.InvT-loop
+Inv-loop bytes longer₀ i₀ longer i = longer .n ≤ 128
+
+abbrev μ-loop : tie.MeasureT-loop
+μ-loop bytes longer₀ i₀ longer i = length bytes - i
+
+pub with-list-spec : {M : Type 1} → statement M
+with-list-spec =
+    tie.close
+    (tie.spec
+    Inv-loop
+    μ-loop
+    (λ c. search needs)
+    (λ c κs. search needs)
+    (λ c. search needs)
+    (λ c κs. search needs)
+    (λ c κs. search needs)
+    (λ c. search needs)
+    (λ c. search needs)
+    (λ c. search needs)
+    (λ c. search needs))

@@ -1,0 +1,74 @@
+//! Writes the charts that test the check and the flattener, and what the model makes of them.
+
+use model::harness::{bytes_of, cases, names, report};
+use std::io::{self, BufWriter, Write};
+use std::process::ExitCode;
+
+const USAGE: &str = "usage: charts rows | classes | list | bytes NAME | random SEED COUNT | \
+                     cases input | cases expected";
+
+enum Request {
+    Rows,
+    Classes,
+    List,
+    Bytes(Vec<u8>),
+    Random { seed: u64, count: usize },
+    CasesInput,
+    CasesExpected,
+}
+
+fn main() -> ExitCode {
+    let words: Vec<String> = std::env::args().skip(1).collect();
+    let words: Vec<&str> = words.iter().map(String::as_str).collect();
+    let request = match read_request(&words) {
+        Ok(request) => request,
+        Err(complaint) => {
+            eprintln!("{complaint}");
+            return ExitCode::from(2);
+        }
+    };
+    match answer(&request) {
+        Ok(()) => ExitCode::SUCCESS,
+        Err(error) => {
+            eprintln!("charts: {error}");
+            ExitCode::FAILURE
+        }
+    }
+}
+
+fn read_request(words: &[&str]) -> Result<Request, String> {
+    match words {
+        ["rows"] => Ok(Request::Rows),
+        ["classes"] => Ok(Request::Classes),
+        ["list"] => Ok(Request::List),
+        ["bytes", name] => {
+            let bytes = bytes_of(name).ok_or(format!("no chart is named {name}"))?;
+            Ok(Request::Bytes(bytes))
+        }
+        ["random", seed, count] => Ok(Request::Random {
+            seed: seed.parse().map_err(|_| USAGE)?,
+            count: count.parse().map_err(|_| USAGE)?,
+        }),
+        ["cases", "input"] => Ok(Request::CasesInput),
+        ["cases", "expected"] => Ok(Request::CasesExpected),
+        _ => Err(String::from(USAGE)),
+    }
+}
+
+fn answer(request: &Request) -> io::Result<()> {
+    let mut out = BufWriter::new(io::stdout().lock());
+    match request {
+        Request::Rows => report::write_rows(&mut out)?,
+        Request::Classes => report::write_classes(&mut out)?,
+        Request::List => {
+            for name in names() {
+                writeln!(out, "{name}")?;
+            }
+        }
+        Request::Bytes(bytes) => out.write_all(bytes)?,
+        Request::Random { seed, count } => report::write_random(&mut out, *seed, *count)?,
+        Request::CasesInput => cases::write_input(&mut out)?,
+        Request::CasesExpected => cases::write_expected(&mut out)?,
+    }
+    out.flush()
+}

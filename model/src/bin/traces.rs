@@ -1,0 +1,142 @@
+//! Writes random traces, and what the model answers to them.
+
+use model::harness::traces::coverage::Coverage;
+use model::harness::traces::{areas, show, Trace};
+use model::kernel::numbers::REPLY_BYTES;
+use model::kernel::replay::{replay, Charts};
+use std::fs;
+use std::io::{self, BufWriter, ErrorKind, Read, Write};
+use std::path::{Path, PathBuf};
+use std::process::ExitCode;
+
+const USAGE: &str = "usage: traces write SEED COMMANDS DIR | replay DIR | show < REPLIES
+     | coverage FIRST_SEED COUNT COMMANDS | areas SEED COUNT";
+
+enum Request {
+    Write {
+        seed: u64,
+        commands: usize,
+        directory: PathBuf,
+    },
+    Replay {
+        directory: PathBuf,
+    },
+    Show,
+    Coverage {
+        first_seed: u64,
+        count: u64,
+        commands: usize,
+    },
+    Areas {
+        seed: u64,
+        count: usize,
+    },
+}
+
+fn main() -> ExitCode {
+    let words: Vec<String> = std::env::args().skip(1).collect();
+    let words: Vec<&str> = words.iter().map(String::as_str).collect();
+    let Some(request) = read_request(&words) else {
+        eprintln!("{USAGE}");
+        return ExitCode::from(2);
+    };
+    match answer(&request) {
+        Ok(()) => ExitCode::SUCCESS,
+        Err(error) => {
+            eprintln!("traces: {error}");
+            ExitCode::FAILURE
+        }
+    }
+}
+
+fn read_request(words: &[&str]) -> Option<Request> {
+    Some(match words {
+        ["write", seed, commands, directory] => Request::Write {
+            seed: seed.parse().ok()?,
+            commands: commands.parse().ok()?,
+            directory: PathBuf::from(directory),
+        },
+        ["replay", directory] => Request::Replay {
+            directory: PathBuf::from(directory),
+        },
+        ["show"] => Request::Show,
+        ["coverage", first_seed, count, commands] => Request::Coverage {
+            first_seed: first_seed.parse().ok()?,
+            count: count.parse().ok()?,
+            commands: commands.parse().ok()?,
+        },
+        ["areas", seed, count] => Request::Areas {
+            seed: seed.parse().ok()?,
+            count: count.parse().ok()?,
+        },
+        _ => return None,
+    })
+}
+
+fn answer(request: &Request) -> io::Result<()> {
+    let mut out = BufWriter::new(io::stdout().lock());
+    match request {
+        Request::Write {
+            seed,
+            commands,
+            directory,
+        } => write_trace(&Trace::random(*seed, *commands), directory)?,
+        Request::Replay { directory } => {
+            let trace = fs::read(directory.join("trace"))?;
+            out.write_all(&replay(&trace, &read_charts(directory)?))?;
+        }
+        Request::Show => {
+            let mut replies = Vec::new();
+            io::stdin().read_to_end(&mut replies)?;
+            for reply in replies.chunks(REPLY_BYTES) {
+                writeln!(out, "{}", show::line(reply))?;
+            }
+        }
+        Request::Coverage {
+            first_seed,
+            count,
+            commands,
+        } => Coverage::of_traces(*first_seed, *count, *commands).write(&mut out)?,
+        Request::Areas { seed, count } => areas::write_calls(&mut out, *seed, *count)?,
+    }
+    out.flush()
+}
+
+/// An empty chart becomes a missing file.
+fn write_trace(trace: &Trace, directory: &Path) -> io::Result<()> {
+    fs::create_dir_all(directory)?;
+    fs::write(directory.join("trace"), &trace.records)?;
+    fs::write(directory.join("replies"), &trace.replies)?;
+    for (number, chart) in trace.charts.iter().enumerate() {
+        let path = chart_path(directory, number);
+        match chart.is_empty() {
+            // One of another trace may be left there.
+            true => remove_if_there(&path)?,
+            false => fs::write(path, chart)?,
+        }
+    }
+    Ok(())
+}
+
+fn remove_if_there(path: &Path) -> io::Result<()> {
+    match fs::remove_file(path) {
+        Err(error) if error.kind() == ErrorKind::NotFound => Ok(()),
+        other => other,
+    }
+}
+
+fn read_charts(directory: &Path) -> io::Result<Charts> {
+    let mut charts = Charts::default();
+    for (number, chart) in charts.iter_mut().enumerate() {
+        match fs::read(chart_path(directory, number)) {
+            Ok(bytes) => *chart = bytes,
+            Err(error) if error.kind() == ErrorKind::NotFound => {}
+            Err(error) => return Err(error),
+        }
+    }
+    Ok(charts)
+}
+
+fn chart_path(directory: &Path, number: usize) -> PathBuf {
+    directory.join(format!("chart{number}"))
+}

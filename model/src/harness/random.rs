@@ -1,0 +1,284 @@
+//! Random charts: half of them built to be good, half of those built and then damaged.
+
+use super::builder::ChartBuilder;
+use crate::chart::{FIRST_SIGNAL, LAST_SIGNAL, MOST_LEVELS, MOST_STATES, RECORD_BYTES};
+
+/// The xorshift generator of 64 bits.
+pub struct Xorshift {
+    state: u64,
+}
+
+impl Xorshift {
+    pub fn new(seed: u64) -> Self {
+        // The odd factor keeps small seeds apart; the generator must not start at 0.
+        let mixed = seed.wrapping_add(1).wrapping_mul(0x9e37_79b9_7f4a_7c15);
+        Xorshift {
+            state: if mixed == 0 { 1 } else { mixed },
+        }
+    }
+
+    fn next(&mut self) -> u64 {
+        self.state ^= self.state << 13;
+        self.state ^= self.state >> 7;
+        self.state ^= self.state << 17;
+        self.state
+    }
+
+    /// A number below the bound, which must not be 0.
+    pub(super) fn below(&mut self, bound: usize) -> usize {
+        // The high half is the better mixed one.
+        (self.next() >> 32) as usize % bound
+    }
+
+    /// True so many times in a hundred.
+    pub(super) fn percent(&mut self, chance: usize) -> bool {
+        self.below(100) < chance
+    }
+
+    pub(super) fn pick<T: Copy>(&mut self, items: &[T]) -> T {
+        items[self.below(items.len())]
+    }
+
+    pub(super) fn byte(&mut self) -> u8 {
+        self.below(256) as u8
+    }
+
+    /// An action; about one in six is 0.
+    fn action(&mut self) -> u8 {
+        if self.percent(16) {
+            0
+        } else {
+            self.byte()
+        }
+    }
+}
+
+/// An endless run of charts from one seed.
+pub struct RandomCharts {
+    random: Xorshift,
+}
+
+impl RandomCharts {
+    pub fn new(seed: u64) -> Self {
+        RandomCharts {
+            random: Xorshift::new(seed),
+        }
+    }
+}
+
+impl Iterator for RandomCharts {
+    type Item = Vec<u8>;
+
+    fn next(&mut self) -> Option<Vec<u8>> {
+        let random = &mut self.random;
+        let good = good_chart(random);
+        let keep = random.percent(40); // less than half, as some damage does no harm
+        Some(if keep { good } else { damaged(random, good) })
+    }
+}
+
+/// The nesting of a random chart, by state number; 0 is the top.
+struct Nesting {
+    parents: Vec<usize>,
+}
+
+impl Nesting {
+    fn random(random: &mut Xorshift) -> Self {
+        let count = 1 + random.below(MOST_STATES);
+        // How often a state goes into the one before it: high for deep charts.
+        let depth = random.pick(&[10, 40, 80]);
+        let mut nesting = Nesting { parents: vec![0] };
+        for number in 1..=count {
+            let before = number - 1;
+            let wished = if random.percent(depth) {
+                before
+            } else {
+                random.below(number)
+            };
+            let too_deep = nesting.around(wished).len() >= MOST_LEVELS;
+            nesting.parents.push(if too_deep { 0 } else { wished });
+        }
+        nesting
+    }
+
+    fn states(&self) -> std::ops::Range<usize> {
+        1..self.parents.len()
+    }
+
+    /// The state and those that contain it, innermost first; none for the top.
+    fn around(&self, state: usize) -> Vec<usize> {
+        let outward = |state: &usize| Some(self.parents[*state]);
+        std::iter::successors(Some(state), outward)
+            .take_while(|&state| state != 0)
+            .collect()
+    }
+
+    /// The proper descendants of a state.
+    fn inside(&self, state: usize) -> Vec<usize> {
+        let is_inside = |inner: &usize| *inner != state && self.around(*inner).contains(&state);
+        self.states().filter(is_inside).collect()
+    }
+
+    fn any(&self, random: &mut Xorshift) -> usize {
+        1 + random.below(self.states().len())
+    }
+
+    /// A target: the state itself, one around or inside it, or any.
+    fn target(&self, random: &mut Xorshift, state: usize) -> usize {
+        match random.below(4) {
+            0 => state,
+            1 => {
+                let related = [self.around(state), self.inside(state)].concat();
+                random.pick(&related)
+            }
+            _ => self.any(random),
+        }
+    }
+}
+
+fn good_chart(random: &mut Xorshift) -> Vec<u8> {
+    let nesting = Nesting::random(random);
+    let mut chart = ChartBuilder::top(nesting.any(random) as u8, random.action());
+    for state in nesting.states() {
+        let parent = nesting.parents[state] as u8;
+        chart = chart.state(parent, random.action(), random.action());
+        let inside = nesting.inside(state);
+        if !inside.is_empty() && random.percent(70) {
+            chart = chart.initial(random.pick(&inside) as u8, random.action());
+        }
+    }
+    // How many of the possible rows there are; the last one fills every place.
+    let density = random.pick(&[0, 3, 10, 10, 25, 50, 100]);
+    for state in nesting.states() {
+        for signal in FIRST_SIGNAL..=LAST_SIGNAL {
+            if random.percent(density) {
+                chart = with_row(random, chart, &nesting, state, signal);
+            }
+        }
+    }
+    chart.bytes()
+}
+
+fn with_row(
+    random: &mut Xorshift,
+    chart: ChartBuilder,
+    nesting: &Nesting,
+    state: usize,
+    signal: u8,
+) -> ChartBuilder {
+    let action = random.action();
+    if random.percent(20) {
+        return chart.internal(state as u8, signal, action);
+    }
+    let target = nesting.target(random, state) as u8;
+    chart.transition(state as u8, signal, target, action)
+}
+
+/// One to three damages, so that faults of several classes meet.
+fn damaged(random: &mut Xorshift, mut bytes: Vec<u8>) -> Vec<u8> {
+    for _ in 0..random.pick(&[1, 1, 2, 3]) {
+        bytes = damaged_once(random, bytes);
+    }
+    bytes
+}
+
+fn damaged_once(random: &mut Xorshift, mut bytes: Vec<u8>) -> Vec<u8> {
+    if bytes.is_empty() {
+        return bytes;
+    }
+    match random.below(10) {
+        0 | 1 => {
+            let place = place(random, bytes.len());
+            bytes[place] = random.byte();
+        }
+        2..=5 => {
+            // A small change stays near the limits that the check must hold.
+            let place = place(random, bytes.len());
+            let change = random.pick(&[1, 2, 254, 255]);
+            bytes[place] = bytes[place].wrapping_add(change);
+        }
+        6 => swap_records(random, &mut bytes),
+        7 => remove_record(random, &mut bytes),
+        8 => {
+            let length = random.below(bytes.len());
+            bytes.truncate(length);
+        }
+        _ => extend(random, &mut bytes),
+    }
+    bytes
+}
+
+/// Half of the damage goes to the front, where the top and the states stand.
+fn place(random: &mut Xorshift, length: usize) -> usize {
+    let front = length.min(12 * RECORD_BYTES);
+    let bound = random.pick(&[front, length]);
+    random.below(bound)
+}
+
+/// Where a whole record begins, if there is one.
+fn record_start(random: &mut Xorshift, bytes: &[u8]) -> Option<usize> {
+    let whole = bytes.len() / RECORD_BYTES;
+    (whole > 0).then(|| random.below(whole) * RECORD_BYTES)
+}
+
+fn swap_records(random: &mut Xorshift, bytes: &mut [u8]) {
+    let starts = (record_start(random, bytes), record_start(random, bytes));
+    if let (Some(first), Some(second)) = starts {
+        for place in 0..RECORD_BYTES {
+            bytes.swap(first + place, second + place);
+        }
+    }
+}
+
+fn remove_record(random: &mut Xorshift, bytes: &mut Vec<u8>) {
+    if let Some(start) = record_start(random, bytes) {
+        bytes.drain(start..start + RECORD_BYTES);
+    }
+}
+
+/// Adds a copy of a record at the end, or any few bytes.
+fn extend(random: &mut Xorshift, bytes: &mut Vec<u8>) {
+    match record_start(random, bytes) {
+        Some(start) if random.percent(60) => bytes.extend_from_within(start..start + RECORD_BYTES),
+        _ => {
+            let more = 1 + random.below(2 * RECORD_BYTES);
+            bytes.extend((0..more).map(|_| random.byte()));
+        }
+    }
+}
+
+#[cfg(test)]
+mod tests {
+    use super::*;
+    use crate::chart::{check, parse, sound, GOOD, ROW_BYTES};
+
+    #[test]
+    fn built_charts_are_good_and_their_rows_are_sound() {
+        let mut random = Xorshift::new(7);
+        for _ in 0..300 {
+            let chart = parse(&good_chart(&mut random)).expect("built to be good");
+            let table = chart.table();
+            let mut rows = table.chunks(ROW_BYTES).take(1 + 28 * chart.state_count());
+            assert!(rows.all(sound));
+        }
+    }
+
+    #[test]
+    fn charts_of_every_class_occur_and_about_half_are_good() {
+        let classes: Vec<u32> = RandomCharts::new(1)
+            .take(400)
+            .map(|bytes| check(&bytes))
+            .collect();
+        let count = |class| classes.iter().filter(|&&found| found == class).count();
+        assert!((160..=240).contains(&count(GOOD)));
+        assert!((1..=4).all(|class| count(class) >= 20));
+    }
+
+    #[test]
+    fn one_seed_gives_one_run() {
+        let run = |seed| RandomCharts::new(seed).take(5).collect::<Vec<_>>();
+        assert_eq!(run(3), run(3));
+        assert_ne!(run(3), run(4));
+        assert_ne!(run(0), run(1));
+    }
+}

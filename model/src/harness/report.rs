@@ -1,0 +1,109 @@
+//! How charts and tables are written out as text.
+
+use super::random::RandomCharts;
+use super::{bad, good};
+use crate::chart::{check, parse, Chart, Outcome, ROW_BYTES};
+use std::io::{self, Write};
+
+/// The sum of (index + 1) times byte over a table, modulo 2 to the 32.
+pub fn table_sum(table: &[u8]) -> u32 {
+    (1u32..).zip(table).fold(0, |sum, (weight, &byte)| {
+        sum.wrapping_add(weight.wrapping_mul(u32::from(byte)))
+    })
+}
+
+/// For each hard chart, the rows of its table that are not ignored, and the sum.
+pub fn write_rows(out: &mut impl Write) -> io::Result<()> {
+    for chart in good::all() {
+        let parsed = parse(&chart.bytes).expect("a hard chart is good");
+        writeln!(out, "chart {} states {}", chart.name, parsed.state_count())?;
+        write_table(out, &parsed)?;
+    }
+    Ok(())
+}
+
+fn write_table(out: &mut impl Write, chart: &Chart) -> io::Result<()> {
+    let table = chart.table();
+    for (offset, bytes) in listed_rows(&table) {
+        writeln!(out, "row {offset}:{}", spaced(bytes))?;
+    }
+    writeln!(out, "sum {}", table_sum(&table))
+}
+
+/// The rows that are not ignored: where each begins, and its bytes up to the last action.
+pub fn listed_rows(table: &[u8]) -> impl Iterator<Item = (usize, &[u8])> {
+    let offsets = (0..).step_by(ROW_BYTES);
+    let rows = offsets.zip(table.chunks(ROW_BYTES));
+    let listed = rows.filter(|(_, row)| row[1] != Outcome::Ignored as u8);
+    listed.map(|(offset, row)| (offset, &row[..3 + usize::from(row[2])]))
+}
+
+/// The bytes in decimal, each after a space.
+pub fn spaced(bytes: &[u8]) -> String {
+    bytes.iter().map(|byte| format!(" {byte}")).collect()
+}
+
+/// The class that the model gives each bad chart.
+pub fn write_classes(out: &mut impl Write) -> io::Result<()> {
+    for chart in bad::all() {
+        writeln!(out, "{} {}", chart.name, check(&chart.bytes))?;
+    }
+    Ok(())
+}
+
+/// Random charts, one per line: class, bytes, sum of the table.
+pub fn write_random(out: &mut impl Write, seed: u64, count: usize) -> io::Result<()> {
+    for bytes in RandomCharts::new(seed).take(count) {
+        let (class, sum) = match parse(&bytes) {
+            Ok(chart) => (0, table_sum(&chart.table())),
+            Err(fault) => (fault.class(), 0),
+        };
+        writeln!(out, "{class} {} {sum}", hex(&bytes))?;
+    }
+    Ok(())
+}
+
+/// Two digits for each byte, `-` for none.
+fn hex(bytes: &[u8]) -> String {
+    if bytes.is_empty() {
+        return String::from("-");
+    }
+    bytes.iter().map(|byte| format!("{byte:02x}")).collect()
+}
+
+#[cfg(test)]
+mod tests {
+    use super::*;
+
+    #[test]
+    fn sums_weigh_each_byte_by_its_place() {
+        assert_eq!(table_sum(&[]), 0);
+        assert_eq!(table_sum(&[7]), 7);
+        assert_eq!(table_sum(&[1, 0, 10, 255]), 1 + 30 + 1020);
+    }
+
+    #[test]
+    fn spaced_bytes() {
+        assert_eq!(spaced(&[]), "");
+        assert_eq!(spaced(&[0, 10, 255]), " 0 10 255");
+    }
+
+    #[test]
+    fn hex_of_bytes() {
+        assert_eq!(hex(&[]), "-");
+        assert_eq!(hex(&[0, 10, 255]), "000aff");
+    }
+
+    #[test]
+    fn rows_of_the_shift_chart_come_first() {
+        let mut out = Vec::new();
+        write_rows(&mut out).expect("a vector takes all");
+        let text = String::from_utf8(out).expect("plain text");
+        let lines: Vec<_> = text.lines().take(3).collect();
+        assert_eq!(lines[0], "chart shift states 5");
+        assert_eq!(lines[1], "row 0: 2 2 4 10 11 13 21");
+        // State 1 by signal 5, its self transition.
+        assert_eq!(lines[2], "row 48: 2 2 5 12 15 11 13 21");
+        assert!(text.contains("\nrow 2136: 5 2 3 42 38 51\n"));
+    }
+}

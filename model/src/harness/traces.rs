@@ -1,0 +1,155 @@
+//! Random traces: charts, command records that follow the kernel's state, and the model's replies.
+
+pub mod areas;
+pub mod coverage;
+mod opening;
+mod pick;
+pub mod show;
+
+use super::random::{RandomCharts, Xorshift};
+use super::{bad, good};
+use crate::chart::{check, GOOD};
+use crate::kernel::numbers::{RECORD_BYTES, REPLY_BYTES};
+use crate::kernel::replay::{Charts, Program};
+use pick::Picker;
+
+pub struct Trace {
+    pub charts: Charts,
+    pub records: Vec<u8>,
+    pub replies: Vec<u8>,
+}
+
+impl Trace {
+    /// A trace of so many records; the last one may be cut short.
+    pub fn random(seed: u64, commands: usize) -> Self {
+        let mut random = Xorshift::new(seed);
+        let charts = random_charts(&mut random);
+        let cuts_last = random.percent(25);
+        let last_bytes = 1 + random.below(RECORD_BYTES - 1);
+        let mut picker = Picker::new(random, &charts);
+        let mut program = Program::fresh(charts.clone());
+        let mut records = Vec::new();
+        let mut replies = Vec::new();
+        for left in (0..commands).rev() {
+            let record = picker.record(program.kernel());
+            let sent = match left {
+                0 if cuts_last => &record[..last_bytes],
+                _ => &record,
+            };
+            records.extend(sent);
+            replies.extend(program.answer(sent));
+        }
+        Trace {
+            charts,
+            records,
+            replies,
+        }
+    }
+
+    /// Each record with its reply.
+    pub fn exchanges(&self) -> impl Iterator<Item = (&[u8], &[u8])> {
+        let records = self.records.chunks(RECORD_BYTES);
+        records.zip(self.replies.chunks(REPLY_BYTES))
+    }
+}
+
+/// Four chart files, one of them good for certain: without one no object starts.
+fn random_charts(random: &mut Xorshift) -> Charts {
+    let mut charts = std::array::from_fn(|_| random_chart(random));
+    charts[random.below(4)] = hard_chart(random);
+    charts
+}
+
+fn random_chart(random: &mut Xorshift) -> Vec<u8> {
+    match random.below(100) {
+        0..40 => hard_chart(random),
+        40..70 => found_chart(random, |class| class == GOOD),
+        70..78 => found_chart(random, |class| class != GOOD),
+        78..86 => {
+            let bad = bad::all();
+            bad[random.below(bad.len())].bytes.clone()
+        }
+        _ => Vec::new(),
+    }
+}
+
+fn hard_chart(random: &mut Xorshift) -> Vec<u8> {
+    let good = good::all();
+    good[random.below(good.len())].bytes.clone()
+}
+
+/// The first random chart whose class is wanted.
+fn found_chart(random: &mut Xorshift, wanted: impl Fn(u32) -> bool) -> Vec<u8> {
+    let seed = random.below(1 << 32) as u64;
+    let mut charts = RandomCharts::new(seed).filter(|bytes| wanted(check(bytes)));
+    charts.next().expect("the charts are endless")
+}
+
+#[cfg(test)]
+mod tests {
+    use super::*;
+    use crate::kernel::command::Command;
+    use crate::kernel::replay::replay;
+
+    #[test]
+    fn the_replies_are_those_of_a_replay() {
+        for seed in 0..10 {
+            let trace = Trace::random(seed, 200);
+            assert_eq!(trace.replies, replay(&trace.records, &trace.charts));
+            assert_eq!(trace.replies.len(), 200 * REPLY_BYTES);
+        }
+    }
+
+    #[test]
+    fn one_seed_gives_one_trace() {
+        let records = |seed| Trace::random(seed, 50).records;
+        assert_eq!(records(3), records(3));
+        assert_ne!(records(3), records(4));
+    }
+
+    #[test]
+    fn most_commands_are_done() {
+        let traces: Vec<Trace> = (0..20).map(|seed| Trace::random(seed, 500)).collect();
+        let replies = traces.iter().flat_map(Trace::exchanges);
+        let done = replies.filter(|(_, reply)| reply[0] == 0).count();
+        assert!(done > 20 * 500 / 2);
+    }
+
+    /// DRAIN is NEXT and END, so a trace with these in its place ends in the same state.
+    #[test]
+    fn a_drain_is_its_steps_one_by_one() {
+        for seed in 0..10 {
+            let trace = Trace::random(seed, 300);
+            let mut drained = Program::fresh(trace.charts.clone());
+            let mut stepped = Program::fresh(trace.charts.clone());
+            for (record, reply) in trace.exchanges() {
+                drained.answer(record);
+                match Command::read(record) {
+                    Some(Command::Drain { .. }) if reply[0] == 0 => {
+                        for _ in 0..reply[4] {
+                            assert_eq!(stepped.answer(&Command::Next.record())[0], 0);
+                            assert_eq!(stepped.answer(&Command::End.record())[0], 0);
+                        }
+                    }
+                    _ => {
+                        stepped.answer(record);
+                    }
+                }
+                assert!(drained.kernel() == stepped.kernel());
+            }
+        }
+    }
+
+    #[test]
+    fn a_refusal_leaves_the_kernel_as_it_was() {
+        for seed in 0..10 {
+            let trace = Trace::random(seed, 300);
+            let mut program = Program::fresh(trace.charts.clone());
+            for (record, _) in trace.exchanges() {
+                let before = program.kernel().clone();
+                let refused = program.answer(record)[0] != 0;
+                assert!(!refused || *program.kernel() == before);
+            }
+        }
+    }
+}

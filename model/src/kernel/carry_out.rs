@@ -1,0 +1,224 @@
+//! What the commands do once nothing refuses them.
+
+use super::command::Command::{self, *};
+use super::command::Handle;
+use super::mail::{Event, Object};
+use super::numbers::REPLY_BYTES;
+use super::pool;
+use super::reply::Reply;
+use super::timers::Timer;
+use super::{Areas, Kernel};
+use crate::chart::{self, MOST_ACTIONS, SLOT_BYTES};
+use std::ops::Range;
+
+/// A sound row of the tables.
+struct Row {
+    next: u8,
+    outcome: u8,
+    actions: Vec<u8>,
+}
+
+impl Row {
+    fn read(tables: &[u8], place: Range<usize>) -> Self {
+        let row = &tables[place];
+        let count = usize::from(row[2]);
+        Row {
+            next: row[0],
+            outcome: row[1],
+            actions: row[3..3 + count].to_vec(),
+        }
+    }
+}
+
+impl Kernel {
+    pub(super) fn carry_out(
+        &mut self,
+        command: &Command,
+        chart: &[u8],
+        areas: &mut Areas,
+    ) -> Reply {
+        match *command {
+            Load { slot } => self.load(slot, chart, areas.tables),
+            Start { p, slot, depth } => self.start(p, slot, depth, areas.tables),
+            New {
+                signal,
+                size,
+                payload,
+            } => self.new_event(signal, &payload[..usize::from(size)], areas.payloads),
+            Post { handle, p, .. } => {
+                let object = self.object_mut(p);
+                object.post_back(Event::Block(handle.block));
+                Reply::value(object.queued())
+            }
+            PostFront { handle, p } => {
+                let object = self.object_mut(p);
+                object.post_front(Event::Block(handle.block));
+                Reply::value(object.queued())
+            }
+            Publish { handle } => self.publish(handle.block),
+            Subscribe { p, signal } => Reply::value(self.subscriptions.insert((signal, p))),
+            Unsubscribe { p, signal } => Reply::value(self.subscriptions.remove(&(signal, p))),
+            Hold { handle } => {
+                let content = self.pool.content_mut(handle.block);
+                content.holds += 1;
+                Reply::value(content.holds)
+            }
+            Release { handle } => {
+                let content = self.pool.content_mut(handle.block);
+                content.holds -= 1;
+                let holds = content.holds;
+                Reply::values(holds, self.free_without_reference(handle.block))
+            }
+            Drop { handle } => {
+                self.pool.free(handle.block);
+                Reply::default()
+            }
+            Next => self.next(areas.tables),
+            End => Reply::value(self.end()),
+            Arm {
+                timer,
+                p,
+                signal,
+                ticks,
+                interval,
+            } => {
+                let armed = Timer {
+                    p,
+                    signal,
+                    counter: ticks,
+                    interval,
+                };
+                self.timers.arm(timer, armed);
+                Reply::default()
+            }
+            Disarm { timer } => Reply::value(self.timers.disarm(timer)),
+            Tick => {
+                let ticked = self.timers.tick(&mut self.objects);
+                Reply::values(ticked.fired, ticked.late)
+            }
+            Read { handle } => self.read(handle, areas.payloads),
+            Drain { budget } => self.drain(budget, areas),
+        }
+    }
+
+    fn load(&mut self, slot: u8, chart: &[u8], tables: &mut [u8]) -> Reply {
+        let begin = usize::from(slot) * SLOT_BYTES;
+        let chart = chart::parse(chart).expect("the chart is good");
+        tables[begin..begin + SLOT_BYTES].copy_from_slice(&chart.table());
+        self.loaded_slots.insert(slot);
+        Reply::value(chart.state_count() as u8)
+    }
+
+    /// A start opens no step: its actions are in the reply and END has nothing to let go.
+    fn start(&mut self, p: u8, slot: u8, depth: u8, tables: &[u8]) -> Reply {
+        let row = Row::read(tables, Self::start_row_place(slot));
+        self.objects.insert(p, Object::new(slot, row.next, depth));
+        Reply {
+            object: p,
+            outcome: row.outcome,
+            actions: row.actions,
+            ..Reply::default()
+        }
+    }
+
+    fn new_event(&mut self, signal: u8, payload: &[u8], payloads: &mut [u8]) -> Reply {
+        let size = payload.len() as u8;
+        let block = self.pool.lowest_free(size).expect("a block is free");
+        self.pool.fill(block, signal, size);
+        let (used, unused) = payloads[pool::place(block)].split_at_mut(payload.len());
+        used.copy_from_slice(payload);
+        unused.fill(0);
+        let handle = self.pool.handle(block);
+        Reply::values(handle.block, handle.generation)
+    }
+
+    fn publish(&mut self, block: u8) -> Reply {
+        let subscribers = self.subscribers(self.signal_of(Event::Block(block)));
+        for &p in &subscribers {
+            self.object_mut(p).post_back(Event::Block(block));
+        }
+        let freed = self.free_without_reference(block);
+        Reply::values(subscribers.len() as u8, freed)
+    }
+
+    fn next(&mut self, tables: &[u8]) -> Reply {
+        let (p, event) = self.next_event().expect("something is queued");
+        let place = self.next_row_place().expect("something is queued");
+        let row = Row::read(tables, place);
+        let object = self.object_mut(p);
+        object.remove_front();
+        object.rest = row.next;
+        self.in_hand = Some(event);
+        Reply {
+            object: p,
+            outcome: row.outcome,
+            signal: self.signal_of(event),
+            values: self.handle_bytes(event),
+            actions: row.actions,
+            ..Reply::default()
+        }
+    }
+
+    /// Lets go the event in hand; whether that freed it.
+    fn end(&mut self) -> bool {
+        match self.in_hand.take() {
+            Some(Event::Block(block)) => self.free_without_reference(block),
+            _ => false,
+        }
+    }
+
+    fn read(&self, handle: Handle, payloads: &[u8]) -> Reply {
+        let payload = &payloads[self.payload_place(handle.block)];
+        let shown = payload.len().min(MOST_ACTIONS);
+        Reply {
+            actions: payload[..shown].to_vec(),
+            ..Reply::value(payload.len() as u8)
+        }
+    }
+
+    fn drain(&mut self, budget: u8, areas: &mut Areas) -> Reply {
+        let mut steps = 0;
+        let mut lines = areas.log.chunks_exact_mut(REPLY_BYTES);
+        while steps < budget && self.can_step(areas.tables) {
+            let line = lines.next().expect("the log has room for 255 steps");
+            line.copy_from_slice(&self.next(areas.tables).bytes());
+            self.end();
+            steps += 1;
+        }
+        let why_stopped = if self.nothing_is_queued() {
+            1
+        } else if steps < budget {
+            2
+        } else {
+            0
+        };
+        Reply::values(steps, why_stopped)
+    }
+
+    fn can_step(&self, tables: &[u8]) -> bool {
+        !self.nothing_is_queued() && !self.next_row_is_unsound(tables)
+    }
+
+    fn handle_bytes(&self, event: Event) -> [u8; 2] {
+        match event {
+            Event::Block(block) => {
+                let handle = self.pool.handle(block);
+                [handle.block, handle.generation]
+            }
+            Event::Timer { timer, .. } => [128 + timer, 0],
+        }
+    }
+
+    /// Frees the block if nothing refers to it; whether it did.
+    fn free_without_reference(&mut self, block: u8) -> bool {
+        let without = self.references(block) == 0;
+        if without {
+            self.pool.free(block);
+        }
+        without
+    }
+
+    fn object_mut(&mut self, p: u8) -> &mut Object {
+        self.objects.get_mut(&p).expect("the object is started")
+    }
+}

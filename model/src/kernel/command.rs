@@ -1,0 +1,326 @@
+//! The command records.
+
+use super::numbers::RECORD_BYTES;
+
+/// Number and arguments, before the payload.
+const HEAD_BYTES: usize = 8;
+const PAYLOAD_BYTES: usize = RECORD_BYTES - HEAD_BYTES;
+
+/// The commands' names by number, LOAD being 1.
+pub const COMMAND_NAMES: [&str; 18] = [
+    "LOAD",
+    "START",
+    "NEW",
+    "POST",
+    "POSTFRONT",
+    "PUBLISH",
+    "SUBSCRIBE",
+    "UNSUBSCRIBE",
+    "HOLD",
+    "RELEASE",
+    "DROP",
+    "NEXT",
+    "END",
+    "ARM",
+    "DISARM",
+    "TICK",
+    "READ",
+    "DRAIN",
+];
+
+#[derive(Clone, Copy, Debug, PartialEq, Eq)]
+pub struct Handle {
+    pub block: u8,
+    pub generation: u8,
+}
+
+/// A record of a known number whose unused bytes are 0; its arguments may be out of range.
+#[derive(Clone, Copy, Debug, PartialEq, Eq)]
+pub enum Command {
+    Load {
+        slot: u8,
+    },
+    Start {
+        p: u8,
+        slot: u8,
+        depth: u8,
+    },
+    New {
+        signal: u8,
+        size: u8,
+        payload: [u8; PAYLOAD_BYTES],
+    },
+    Post {
+        handle: Handle,
+        p: u8,
+        margin: u8,
+    },
+    PostFront {
+        handle: Handle,
+        p: u8,
+    },
+    Publish {
+        handle: Handle,
+    },
+    Subscribe {
+        p: u8,
+        signal: u8,
+    },
+    Unsubscribe {
+        p: u8,
+        signal: u8,
+    },
+    Hold {
+        handle: Handle,
+    },
+    Release {
+        handle: Handle,
+    },
+    Drop {
+        handle: Handle,
+    },
+    Next,
+    End,
+    Arm {
+        timer: u8,
+        p: u8,
+        signal: u8,
+        ticks: u16,
+        interval: u16,
+    },
+    Disarm {
+        timer: u8,
+    },
+    Tick,
+    Read {
+        handle: Handle,
+    },
+    Drain {
+        budget: u8,
+    },
+}
+
+use Command::*;
+
+impl Command {
+    /// The command of a record, or nothing if the record's form is wrong.
+    pub fn read(record: &[u8]) -> Option<Command> {
+        let record: &[u8; RECORD_BYTES] = record.try_into().ok()?;
+        let (head, payload) = record.split_at(HEAD_BYTES);
+        let command = read_head(head, payload)?;
+        let unused = &payload[command.payload_bytes_used()..];
+        unused.iter().all(|&byte| byte == 0).then_some(command)
+    }
+
+    /// The record of a command.
+    pub fn record(&self) -> [u8; RECORD_BYTES] {
+        let mut record = [0; RECORD_BYTES];
+        record[..HEAD_BYTES].copy_from_slice(&self.head());
+        if let New { payload, .. } = self {
+            record[HEAD_BYTES..].copy_from_slice(payload);
+        }
+        record
+    }
+
+    fn payload_bytes_used(&self) -> usize {
+        match *self {
+            // A size above 64 leaves no byte unused.
+            New { size, .. } => PAYLOAD_BYTES.min(usize::from(size)),
+            _ => 0,
+        }
+    }
+
+    fn head(&self) -> [u8; HEAD_BYTES] {
+        match *self {
+            Load { slot } => [1, slot, 0, 0, 0, 0, 0, 0],
+            Start { p, slot, depth } => [2, p, slot, depth, 0, 0, 0, 0],
+            New { signal, size, .. } => [3, signal, size, 0, 0, 0, 0, 0],
+            Post { handle, p, margin } => [4, handle.block, handle.generation, p, margin, 0, 0, 0],
+            PostFront { handle, p } => [5, handle.block, handle.generation, p, 0, 0, 0, 0],
+            Publish { handle } => with_handle(6, handle),
+            Subscribe { p, signal } => [7, p, signal, 0, 0, 0, 0, 0],
+            Unsubscribe { p, signal } => [8, p, signal, 0, 0, 0, 0, 0],
+            Hold { handle } => with_handle(9, handle),
+            Release { handle } => with_handle(10, handle),
+            Drop { handle } => with_handle(11, handle),
+            Next => [12, 0, 0, 0, 0, 0, 0, 0],
+            End => [13, 0, 0, 0, 0, 0, 0, 0],
+            Arm {
+                timer,
+                p,
+                signal,
+                ticks,
+                interval,
+            } => {
+                let [ticks_low, ticks_high] = ticks.to_le_bytes();
+                let [interval_low, interval_high] = interval.to_le_bytes();
+                [
+                    14,
+                    timer,
+                    p,
+                    signal,
+                    ticks_low,
+                    ticks_high,
+                    interval_low,
+                    interval_high,
+                ]
+            }
+            Disarm { timer } => [15, timer, 0, 0, 0, 0, 0, 0],
+            Tick => [16, 0, 0, 0, 0, 0, 0, 0],
+            Read { handle } => with_handle(17, handle),
+            Drain { budget } => [18, budget, 0, 0, 0, 0, 0, 0],
+        }
+    }
+}
+
+/// The head of a command whose only argument is a handle.
+fn with_handle(number: u8, handle: Handle) -> [u8; HEAD_BYTES] {
+    [number, handle.block, handle.generation, 0, 0, 0, 0, 0]
+}
+
+/// The command of a head; each 0 in a pattern is an unused argument.
+fn read_head(head: &[u8], payload: &[u8]) -> Option<Command> {
+    let handle = Handle {
+        block: head[1],
+        generation: head[2],
+    };
+    Some(match *head {
+        [1, slot, 0, 0, 0, 0, 0, 0] => Load { slot },
+        [2, p, slot, depth, 0, 0, 0, 0] => Start { p, slot, depth },
+        [3, signal, size, 0, 0, 0, 0, 0] => New {
+            signal,
+            size,
+            payload: payload.try_into().ok()?,
+        },
+        [4, _, _, p, margin, 0, 0, 0] => Post { handle, p, margin },
+        [5, _, _, p, 0, 0, 0, 0] => PostFront { handle, p },
+        [6, _, _, 0, 0, 0, 0, 0] => Publish { handle },
+        [7, p, signal, 0, 0, 0, 0, 0] => Subscribe { p, signal },
+        [8, p, signal, 0, 0, 0, 0, 0] => Unsubscribe { p, signal },
+        [9, _, _, 0, 0, 0, 0, 0] => Hold { handle },
+        [10, _, _, 0, 0, 0, 0, 0] => Release { handle },
+        [11, _, _, 0, 0, 0, 0, 0] => Drop { handle },
+        [12, 0, 0, 0, 0, 0, 0, 0] => Next,
+        [13, 0, 0, 0, 0, 0, 0, 0] => End,
+        [14, timer, p, signal, ticks_low, ticks_high, interval_low, interval_high] => Arm {
+            timer,
+            p,
+            signal,
+            ticks: u16::from_le_bytes([ticks_low, ticks_high]),
+            interval: u16::from_le_bytes([interval_low, interval_high]),
+        },
+        [15, timer, 0, 0, 0, 0, 0, 0] => Disarm { timer },
+        [16, 0, 0, 0, 0, 0, 0, 0] => Tick,
+        [17, _, _, 0, 0, 0, 0, 0] => Read { handle },
+        [18, budget, 0, 0, 0, 0, 0, 0] => Drain { budget },
+        _ => return None,
+    })
+}
+
+#[cfg(test)]
+mod tests {
+    use super::*;
+
+    /// A record that begins with these bytes.
+    fn record(head: &[u8]) -> [u8; RECORD_BYTES] {
+        let mut record = [0; RECORD_BYTES];
+        record[..head.len()].copy_from_slice(head);
+        record
+    }
+
+    /// A record with as many arguments as its command uses, none of them 0.
+    fn with_all_arguments(number: u8) -> [u8; RECORD_BYTES] {
+        let used = [1, 3, 2, 4, 3, 2, 2, 2, 2, 2, 2, 0, 0, 7, 1, 0, 2, 1];
+        let mut record = record(&[number]);
+        record[1..=used[usize::from(number) - 1]].fill(1);
+        record
+    }
+
+    #[test]
+    fn arguments_stand_in_the_documents_order() {
+        let handle = Handle {
+            block: 7,
+            generation: 8,
+        };
+        let start = Start {
+            p: 1,
+            slot: 2,
+            depth: 3,
+        };
+        let post = Post {
+            handle,
+            p: 9,
+            margin: 10,
+        };
+        let arm = Arm {
+            timer: 1,
+            p: 2,
+            signal: 3,
+            ticks: 0x0504,
+            interval: 0x0706,
+        };
+        assert_eq!(Command::read(&record(&[2, 1, 2, 3])), Some(start));
+        assert_eq!(Command::read(&record(&[4, 7, 8, 9, 10])), Some(post));
+        assert_eq!(
+            Command::read(&record(&[5, 7, 8, 9])),
+            Some(PostFront { handle, p: 9 })
+        );
+        assert_eq!(
+            Command::read(&record(&[14, 1, 2, 3, 4, 5, 6, 7])),
+            Some(arm)
+        );
+        assert_eq!(Command::read(&record(&[17, 7, 8])), Some(Read { handle }));
+    }
+
+    #[test]
+    fn each_number_is_read_and_written() {
+        for number in 1..=18 {
+            let record = with_all_arguments(number);
+            let command = Command::read(&record).expect("a right form");
+            assert_eq!(command.record(), record);
+        }
+    }
+
+    #[test]
+    fn each_unused_byte_must_be_0() {
+        for number in 1..=18 {
+            let right = with_all_arguments(number);
+            let unused = (1..RECORD_BYTES).filter(|&place| right[place] == 0);
+            for place in unused {
+                let mut wrong = right;
+                wrong[place] = 1;
+                // The first payload byte of a NEW of size 1 is used.
+                let is_payload = number == 3 && place == HEAD_BYTES;
+                assert_eq!(Command::read(&wrong).is_some(), is_payload);
+            }
+        }
+    }
+
+    #[test]
+    fn payload_bytes_past_the_size_must_be_0() {
+        let new = |size: u8, last_place: usize| {
+            let mut record = record(&[3, 4, size]);
+            record[last_place] = 9;
+            Command::read(&record)
+        };
+        assert_eq!(new(0, 8), None);
+        assert!(new(5, 12).is_some());
+        assert_eq!(new(5, 13), None);
+        assert_eq!(new(63, 71), None);
+        assert!(new(64, 71).is_some());
+        assert!(new(65, 71).is_some());
+        assert!(new(255, 71).is_some());
+    }
+
+    #[test]
+    fn unknown_numbers_and_other_lengths() {
+        for number in (0..=255).filter(|number| !(1..=18).contains(number)) {
+            assert_eq!(Command::read(&record(&[number])), None);
+        }
+        let next = record(&[12]);
+        assert_eq!(Command::read(&next), Some(Next));
+        assert_eq!(Command::read(&[]), None);
+        assert_eq!(Command::read(&next[..71]), None);
+        assert_eq!(Command::read(&[&next[..], &[0]].concat()), None);
+    }
+}

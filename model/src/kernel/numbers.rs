@@ -1,0 +1,23 @@
+//! The numbers of the kernel, as document 01 gives them.
+
+use crate::chart;
+use std::ops::RangeInclusive;
+
+/// Objects are known by their priority; 16 is the most urgent.
+pub const PRIORITIES: RangeInclusive<u8> = 1..=16;
+pub const DEPTHS: RangeInclusive<u8> = 1..=16;
+pub const SIGNALS: RangeInclusive<u8> = chart::FIRST_SIGNAL..=chart::LAST_SIGNAL;
+pub const TIMERS: RangeInclusive<u8> = 0..=15;
+pub const SLOTS: RangeInclusive<u8> = 0..=3;
+pub const BLOCKS: RangeInclusive<u8> = 0..=55;
+pub const SIZES: RangeInclusive<u8> = 0..=64;
+pub const MARGINS: RangeInclusive<u8> = 0..=15;
+pub const MOST_HOLDS: u8 = 15;
+
+pub const PAYLOADS_BYTES: usize = 1_536;
+pub const TABLES_BYTES: usize = 64_608;
+pub const LOG_BYTES: usize = 6_120;
+
+/// A command record: number, seven arguments, 64 payload bytes.
+pub const RECORD_BYTES: usize = 72;
+pub const REPLY_BYTES: usize = 24;

@@ -1,0 +1,59 @@
+//! The program that replays a trace.
+
+use super::numbers::*;
+use super::Kernel;
+
+/// The chart files; a missing one is an empty chart.
+pub type Charts = [Vec<u8>; 4];
+
+const LOAD: u8 = 1;
+
+/// One kernel with its areas, from a fresh start.
+pub struct Program {
+    kernel: Kernel,
+    charts: Charts,
+    payloads: Vec<u8>,
+    tables: Vec<u8>,
+    log: Vec<u8>,
+}
+
+impl Program {
+    pub fn fresh(charts: Charts) -> Self {
+        Program {
+            kernel: Kernel::fresh(),
+            charts,
+            payloads: vec![0; PAYLOADS_BYTES],
+            tables: vec![0; TABLES_BYTES],
+            log: vec![0; LOG_BYTES],
+        }
+    }
+
+    pub fn kernel(&self) -> &Kernel {
+        &self.kernel
+    }
+
+    pub fn answer(&mut self, record: &[u8]) -> [u8; REPLY_BYTES] {
+        self.kernel.command(
+            record,
+            chart_for(record, &self.charts),
+            &mut self.payloads,
+            &mut self.tables,
+            &mut self.log,
+        )
+    }
+}
+
+/// The chart that goes with a record: for LOAD n that of file n, else an empty one.
+pub fn chart_for<'a>(record: &[u8], charts: &'a Charts) -> &'a [u8] {
+    match *record {
+        [LOAD, slot, ..] => charts.get(usize::from(slot)).map_or(&[], Vec::as_slice),
+        _ => &[],
+    }
+}
+
+/// The replies to a trace; a last piece shorter than a record is answered too.
+pub fn replay(trace: &[u8], charts: &Charts) -> Vec<u8> {
+    let mut program = Program::fresh(charts.clone());
+    let records = trace.chunks(RECORD_BYTES);
+    records.flat_map(|record| program.answer(record)).collect()
+}

@@ -1,0 +1,112 @@
+//! The reply record.
+
+use super::numbers::REPLY_BYTES;
+use crate::chart::MOST_ACTIONS;
+
+/// The answers' names by number.
+pub const ANSWER_NAMES: [&str; 16] = [
+    "DONE", "FORM", "AREA", "RANGE", "BUSY", "NOSTEP", "IDLE", "STALE", "ABSENT", "TAKEN", "FULL",
+    "DRY", "HOLDS", "INUSE", "CHART", "TABLE",
+];
+
+/// Every answer but DONE; the order is that of the numbers.
+#[derive(Clone, Copy, Debug, PartialEq, Eq, PartialOrd, Ord)]
+pub enum Refusal {
+    Form = 1,
+    Area,
+    Range,
+    Busy,
+    NoStep,
+    Idle,
+    Stale,
+    Absent,
+    Taken,
+    Full,
+    Dry,
+    Holds,
+    InUse,
+    Chart,
+    Table,
+}
+
+/// A reply before it is laid out; what a command leaves out is 0.
+#[derive(Clone, Debug, Default, PartialEq, Eq)]
+pub struct Reply {
+    pub number: u8,
+    pub object: u8,
+    pub outcome: u8,
+    pub signal: u8,
+    pub values: [u8; 2],
+    /// READ shows payload bytes here; the count is their number.
+    pub actions: Vec<u8>,
+}
+
+impl Reply {
+    pub fn refused(refusal: Refusal) -> Self {
+        Reply {
+            number: refusal as u8,
+            ..Reply::default()
+        }
+    }
+
+    /// DONE with one value.
+    pub fn value(value: impl Into<u8>) -> Self {
+        Self::values(value, 0)
+    }
+
+    /// DONE with two values.
+    pub fn values(first: impl Into<u8>, second: impl Into<u8>) -> Self {
+        Reply {
+            values: [first.into(), second.into()],
+            ..Reply::default()
+        }
+    }
+
+    pub fn bytes(&self) -> [u8; REPLY_BYTES] {
+        let count = self.actions.len();
+        assert!(count <= MOST_ACTIONS, "a reply has room for 18 actions");
+        let mut bytes = [0; REPLY_BYTES];
+        bytes[0] = self.number;
+        bytes[1] = self.object;
+        bytes[2] = self.outcome * 32 + self.signal;
+        bytes[3] = count as u8;
+        bytes[4..6].copy_from_slice(&self.values);
+        bytes[6..6 + count].copy_from_slice(&self.actions);
+        bytes
+    }
+}
+
+#[cfg(test)]
+mod tests {
+    use super::*;
+
+    #[test]
+    fn bytes_stand_in_the_documents_order() {
+        let reply = Reply {
+            number: 0,
+            object: 16,
+            outcome: 2,
+            signal: 31,
+            values: [7, 8],
+            actions: vec![1, 2, 3],
+        };
+        let mut expected = [0; REPLY_BYTES];
+        expected[..9].copy_from_slice(&[0, 16, 95, 3, 7, 8, 1, 2, 3]);
+        assert_eq!(reply.bytes(), expected);
+    }
+
+    #[test]
+    fn a_refusal_is_its_number_and_zeros() {
+        let bytes = Reply::refused(Refusal::Table).bytes();
+        assert_eq!(bytes[0], 15);
+        assert_eq!(bytes[1..], [0; 23]);
+    }
+
+    #[test]
+    fn each_refusal_has_its_name_at_its_number() {
+        assert_eq!(ANSWER_NAMES[Refusal::Form as usize], "FORM");
+        assert_eq!(ANSWER_NAMES[Refusal::Idle as usize], "IDLE");
+        assert_eq!(ANSWER_NAMES[Refusal::Dry as usize], "DRY");
+        assert_eq!(ANSWER_NAMES[Refusal::Table as usize], "TABLE");
+    }
+}
