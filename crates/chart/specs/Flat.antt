@@ -37,7 +37,7 @@ place s g = rowSize + rowSize * (28 * (s - 1) + (g - firstSignal))
 abbrev pub rowAt : List ℕ → ℕ → List ℕ
 rowAt t at = take rowSize (drop at t)
 
--- A row is sound if next is 1-24, outcome at most 2, count at most 18, and unused bytes are 0.
+-- A row of 24 bytes is sound if next is 1-24, outcome at most 2, count at most 18, and unused bytes are 0.
 unfoldable pub sound : List ℕ → Bool
 sound r =
     eqb (length r) rowSize
@@ -46,6 +46,7 @@ sound r =
     && (leb (getD r 2 0) mostActions
     && blank r (3 + getD r 2 0) rowSize)))
 
+-- The answer that a row gives.
 unfoldable pub answerOf : List ℕ → Answer
 answerOf r = record { next = getD r 0 0; outcome = getD r 1 0; acts = take (getD r 2 0) (drop 3 r) }
 

@@ -1,5 +1,5 @@
 // The chart check and the flattener of document 01, and the reading of a flat table's rows.
-mod check;
+mod faults;
 mod read;
 mod step;
 mod table;
@@ -7,7 +7,7 @@ mod table;
 ghost use mathlib.Core.Path.{_≡_};
 ghost use Rattle.chart.specs.Chart.{classOf, states};
 ghost use Rattle.chart.specs.Flat.{flattened, place, sound};
-use check::*;
+use faults::*;
 use ground::blank;
 use ground::wide;
 use read::*;

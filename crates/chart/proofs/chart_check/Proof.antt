@@ -1,6 +1,7 @@
 -- Each class from the tests passed before it.
 use borrow.Author.Needs.{needs}
-use mathlib.Core.Path.{sym, _∙_}
+use mathlib.Core.Bool.{cond}
+use mathlib.Core.Path.{_≡_, sym, ap, _∙_}
 use native.Mathlib.Omega.{arith}
 use Rattle.ground.specs.Bools.{refused, passed}
 use Rattle.chart.specs.Chart.{classOf}
@@ -36,27 +37,23 @@ returns-3 c =
 rows-ok-requires : tie.Need-rows-ok-requires
 rows-ok-requires c κs = few (c .before .before .before .before .state-count .result) (c .before .before .before .before .before .before .before .before .args .chart .now) (passed (c .before .before .before .forms-ok .ensures) (c .before .before .if2 .left)) .1
 
-returns-4 : tie.Need-returns-4
+-- behind the tests of classes 1 to 3 only the rows are left
+rows-left : (c : tie.After-rows-ok) → classOf (c .before .before .before .before .before .before .before .before .before .args .chart .now) ≡ cond (c .rows-ok .result) 0 4
 unfolding classOf
-returns-4 c =
+rows-left c =
     simp (
-      passed (c .before .before .before .before .before .before .before .before .length-ok .ensures) (c .before .before .before .before .before .before .before .if1 .left),
-      ← c .before .before .before .before .before .before .state-count .ensures,
-      passed (c .before .before .before .before .before .forms-ok .ensures) (c .before .before .before .before .if2 .left),
-      passed (c .before .before .before .tree-ok .ensures) (c .before .before .if3 .left),
-      sym (c .before .rows-ok .ensures) ∙ c .if4 .taken,
+      passed (c .before .before .before .before .before .before .before .length-ok .ensures) (c .before .before .before .before .before .before .if1 .left),
+      ← c .before .before .before .before .before .state-count .ensures,
+      passed (c .before .before .before .before .forms-ok .ensures) (c .before .before .before .if2 .left),
+      passed (c .before .before .tree-ok .ensures) (c .before .if3 .left),
+      c .rows-ok .ensures,
     )
 
+returns-4 : tie.Need-returns-4
+returns-4 c = sym (rows-left (c .before) ∙ ap (λ b. cond b 0 4) (c .if4 .taken))
+
 returns-5 : tie.Need-returns-5
-unfolding classOf
-returns-5 c =
-    simp (
-      passed (c .before .before .before .before .before .before .before .before .length-ok .ensures) (c .before .before .before .before .before .before .before .if1 .left),
-      ← c .before .before .before .before .before .before .state-count .ensures,
-      passed (c .before .before .before .before .before .forms-ok .ensures) (c .before .before .before .before .if2 .left),
-      passed (c .before .before .before .tree-ok .ensures) (c .before .before .if3 .left),
-      sym (c .before .rows-ok .ensures) ∙ c .if4 .left,
-    )
+returns-5 c = sym (rows-left (c .before) ∙ ap (λ b. cond b 0 4) (c .if4 .left))
 
 pub chart-check-spec : {M : Type 1} → statement M
 chart-check-spec =

@@ -15,7 +15,12 @@ returns-2 c = simp (eq-eqb _ _ (c .before .before .before .if1 .left), refused (
 
 returns-3 : tie.Need-returns-3
 unfolding sound
-returns-3 c = simp (eq-eqb _ _ (c .before .before .before .before .before .if1 .left), passed (c .before .before .before .is-among .ensures) (c .before .before .if2 .left), lt-leb _ _ (c .if3 .taken))
+returns-3 c =
+    simp (
+      eq-eqb _ _ (c .before .before .before .before .before .if1 .left),
+      passed (c .before .before .before .is-among .ensures) (c .before .before .if2 .left),
+      lt-leb _ _ (c .if3 .taken),
+    )
 
 returns-4 : tie.Need-returns-4
 unfolding sound

@@ -18,24 +18,27 @@ abbrev μ-loop : tie.MeasureT-loop
 μ-loop chart table₀ n index k₀ table k = 672 - k
 
 index-rows-requires : tie.Need-index-rows-requires Inv-loop μ-loop
-index-rows-requires c κs = size-of (c .before .before .before .args .chart .now) (accepted _ (c .before .before .before .pre .0) .fits)
+index-rows-requires c κs = let from = c .before .before .before in size-of (from .args .chart .now) (accepted _ (from .pre .0) .fits)
 
 loop-holds : tie.Need-loop-holds Inv-loop μ-loop
 loop-holds c =
-    let d = c .before .before .before .before .before .before .before .before .before .args .chart .now in
-    let e = ap rowBytes (c .before .before .before .start-of .ensures) ∙ row-same (start d) (start-bound d (accepted d (c .before .before .before .before .before .before .before .before .before .pre .0))) in
-    (search needs, c .before .before .write-row .kept .0 ∙ c .before .before .before .before .before .before .before .before .before .pre .1, first-row d (c .before .before .write-row .last .0) (drop 24 (c .before .before .before .before .before .before .before .before .before .args .table .now)) (rw (← e) (c .before .before .write-row .ensures)))
+    let from = c .before .before .before .before .before .before .before .before .before in
+    let d = from .args .chart .now in
+    let w = c .before .before .write-row in
+    let e = ap rowBytes (c .before .before .before .start-of .ensures) ∙ row-same (start d) (start-bound d (accepted d (from .pre .0))) in
+    (search needs, w .kept .0 ∙ from .pre .1, first-row d (w .last .0) (drop 24 (from .args .table .now)) (rw (← e) (w .ensures)))
 
 row-no-requires : tie.Need-row-no-requires Inv-loop μ-loop
 row-no-requires c κs = (c .before .before .before .before .before .before .before .before .before .before .before .before .before .pre .0, c .before .before .before .before .before .before .before .before .before .index-rows .ensures, c .before .before .before .before .before .before .before .before .before .before .state-count .ensures, c .before .before .loop-test .taken)
 
 loop-again : tie.Need-loop-again Inv-loop μ-loop
 loop-again c =
-    let t = c .before .before .before .before .before .before .before .loop .table in
-    let k = c .before .before .before .before .before .before .before .loop .k in (
+    let at = c .before .before .before .before .before .before .before .loop in
+    let k = at .k in
+    let w = c .before .before .write-row2 in (
       search needs,
-      same-len-mid (24 * k + 24) (length t - (24 * k + 24)) t (c .before .before .write-row2 .last .0) (c .before .before .write-row2 .kept .0) ∙ c .before .before .before .before .before .before .before .loop .inv .1,
-      rw (c .before .before .write-row2 .ensures) (row-turn (c .before .before .before .before .before .before .before .before .before .before .before .before .before .before .before .before .before .args .chart .now) k (c .before .before .before .before .before .before .before .before .before .before .write-row .last .0) t _ (c .before .before .before .row-no .ensures) (c .before .before .before .before .before .before .before .loop .inv .2)),
+      same-len-mid (24 * k + 24) (length (at .table) - (24 * k + 24)) (at .table) (w .last .0) (w .kept .0) ∙ at .inv .1,
+      rw (w .ensures) (row-turn (c .before .before .before .before .before .before .before .before .before .before .before .before .before .before .before .before .before .args .chart .now) k (c .before .before .before .before .before .before .before .before .before .before .write-row .last .0) (at .table) _ (c .before .before .before .row-no .ensures) (at .inv .2)),
     )
 
 same-length : tie.Need-same-length Inv-loop μ-loop
@@ -43,7 +46,10 @@ same-length c = c .before .loop .inv .1 ∙ sym (c .before .before .before .befo
 
 returns : tie.Need-returns Inv-loop μ-loop
 returns c =
-    rows-done (c .before .before .before .before .before .before .before .before .before .before .before .args .chart .now) (c .before .loop .k) (c .before .before .before .before .write-row .last .0) (c .before .loop .table) (c .before .loop .inv .0) (c .loop-test .left) (c .before .before .before .before .write-row .kept .0 ∙ c .before .before .before .before .before .before .before .before .before .before .before .pre .1) (c .before .loop .inv .2)
+    let from = c .before .before .before .before .before .before .before .before .before .before .before in
+    let at = c .before .loop in
+    let w = c .before .before .before .before .write-row in
+    rows-done (from .args .chart .now) (at .k) (w .last .0) (at .table) (at .inv .0) (c .loop-test .left) (w .kept .0 ∙ from .pre .1) (at .inv .2)
 
 pub fill-table-spec : {M : Type 1} → statement M
 fill-table-spec =

@@ -26,8 +26,9 @@ loop-holds c = (search needs, c .before .pre .state .1, refl)
 
 returns : tie.Need-returns Inv-loop μ-loop
 returns c =
-    let d = c .before .before .before .before .args .chart .now in
-    (sym (first-of-top (hasRow d (c .before .before .before .before .args .g)) d (6 - c .before .before .loop .k) (c .before .before .loop .s) (c .if1 .taken)) ∙ c .before .before .loop .inv .2, search needs)
+    let from = c .before .before .before .before .args in
+    let at = c .before .before .loop in
+    (sym (first-of-top (hasRow (from .chart .now) (from .g)) (from .chart .now) (6 - at .k) (at .s) (c .if1 .taken)) ∙ at .inv .2, search needs)
 
 row-of-requires : tie.Need-row-of-requires Inv-loop μ-loop
 row-of-requires c κs =
@@ -37,21 +38,26 @@ row-of-requires c κs =
 
 returns-2 : tie.Need-returns-2 Inv-loop μ-loop
 returns-2 c =
-    let d = c .before .before .before .before .before .before .args .chart .now in
+    let from = c .before .before .before .before .before .before in
+    let d = from .args .chart .now in
+    let g = from .args .g in
     let at = c .before .before .before .before .loop in
-    let e = row-found (c .before .before .before .before .before .before .pre) (at .s) (c .before .before .if1 .left) (at .inv .1) (c .before .row-of .ensures .0) in
-    let found : hasRow d (c .before .before .before .before .before .before .args .g) (at .s) ≡ true = rw (← e) (lt-ltb _ _ (c .if2 .taken)) in
-    (sym (first-of-found (hasRow d (c .before .before .before .before .before .before .args .g)) d (at .k) (at .s) (search needs) (c .before .before .if1 .left) found) ∙ at .inv .2, at .inv .1)
+    let n = c .before .before .if1 .left in
+    let e = row-found (from .pre) (at .s) n (at .inv .1) (c .before .row-of .ensures .0) in
+    let found : hasRow d g (at .s) ≡ true = rw (← e) (lt-ltb _ _ (c .if2 .taken)) in
+    (sym (first-of-found (hasRow d g) d (at .k) (at .s) (search needs) n found) ∙ at .inv .2, at .inv .1)
 
 loop-again : tie.Need-loop-again Inv-loop μ-loop
 loop-again c =
-    let d = c .before .before .before .before .before .before .before .args .chart .now in
+    let from = c .before .before .before .before .before .before .before in
+    let d = from .args .chart .now in
+    let g = from .args .g in
     let at = c .before .before .before .before .before .loop in
-    let e = row-found (c .before .before .before .before .before .before .before .pre) (at .s) (c .before .before .before .if1 .left) (at .inv .1) (c .before .before .row-of .ensures .0) in
-    let none : hasRow d (c .before .before .before .before .before .before .before .args .g) (at .s) ≡ false = rw (← e) (le-ltb _ _ (c .before .if2 .left)) in
     let n = c .before .before .before .if1 .left in
-    let l = parent-low d (accepted d (c .before .before .before .before .before .before .before .pre .good)) (at .s) (record { low = omega arith; high = at .inv .1 }) in
-    let q = first-of-more (hasRow d (c .before .before .before .before .before .before .before .args .g)) d (at .k) (at .s) (search needs) (c .before .before .before .if1 .left) none in
+    let e = row-found (from .pre) (at .s) n (at .inv .1) (c .before .before .row-of .ensures .0) in
+    let none : hasRow d g (at .s) ≡ false = rw (← e) (le-ltb _ _ (c .before .if2 .left)) in
+    let l = parent-low d (accepted d (from .pre .good)) (at .s) (record { low = omega arith; high = at .inv .1 }) in
+    let q = first-of-more (hasRow d g) d (at .k) (at .s) (search needs) n none in
     (search needs, omega (arith, c .parent-of .ensures, at .inv .1), rw (c .parent-of .ensures) (sym q ∙ at .inv .2))
 
 returns-3 : tie.Need-returns-3 Inv-loop μ-loop

@@ -21,14 +21,14 @@ returns-3 c = ap (λ n. getD (rowBytes (c .before .before .before .before .args 
 returns-4 : tie.Need-returns-4
 unfolding rowBytes
 returns-4 c =
-    let a = c .before .before .before .before .before .args .r .acts .a in
-    sym (row-rest _ _ _ a (search needs) (c .before .before .before .before .before .args .j) (c .if4 .taken))
+    let from = c .before .before .before .before .before .args in
+    sym (row-rest _ _ _ (from .r .acts .a) (search needs) (from .j) (c .if4 .taken))
 
 returns-5 : tie.Need-returns-5
 unfolding rowBytes
 returns-5 c =
-    let a = c .before .before .before .before .before .before .args .r .acts .a in
-    sym (row-act _ _ _ a (search needs) (c .before .before .before .before .before .before .args .j) (c .before .before .before .before .before .if1 .left) (c .before .before .before .before .if2 .left) (c .before .before .if3 .left) (c .before .if4 .left))
+    let from = c .before .before .before .before .before .before .args in
+    sym (row-act _ _ _ (from .r .acts .a) (search needs) (from .j) (c .before .before .before .before .before .if1 .left) (c .before .before .before .before .if2 .left) (c .before .before .if3 .left) (c .before .if4 .left))
 
 pub row-byte-spec : {M : Type 1} → statement M
 row-byte-spec = tie.close (tie.spec returns returns-2 returns-3 returns-4 (λ c. search needs) (λ c. search needs) returns-5)

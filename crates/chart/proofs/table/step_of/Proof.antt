@@ -1,7 +1,8 @@
 use borrow.Author.Needs.{needs}
-use mathlib.Core.Path.{sym, ap, _∙_}
+use mathlib.Core.Path.{_≡_, sym, ap, _∙_}
 use native.Mathlib.Omega.{arith}
 use lib.ListN.{length}
+use Rattle.chart.specs.Chart.{byte}
 use Rattle.chart.proofs.Accepted.{few-states}
 use Rattle.chart.proofs.Index.{length-index, row-found}
 use Rattle.chart.proofs.Steps.{step-ignored, step-internal, step-moved}
@@ -19,19 +20,25 @@ row-of-requires c κs =
 
 returns-2 : tie.Need-returns-2
 returns-2 c =
-    let d = c .before .before .before .before .before .before .before .before .before .args .chart .now in
+    let from = c .before .before .before .before .before .before .before .before .before in
     let s = c .before .before .before .before .before .before .before .find-source in
-    let i = row-found (c .before .before .before .before .before .before .before .before .before .pre) (s .result) (c .before .before .before .before .before .before .if1 .left) (s .ensures .1) (c .before .before .before .before .before .row-of .ensures .0) in
+    let i = c .before .before .before .before .before .row-of in
+    let n = c .before .before .before .before .before .before .if1 .left in
+    let e = row-found (from .pre) (s .result) n (s .ensures .1) (i .ensures .0) in
+    let z = sym (c .before .before .before .before .field .ensures) ∙ c .before .before .before .if2 .taken in
     rw (c .push .ensures, c .before .before .no-acts2 .ensures, c .before .field2 .ensures)
-    (step-internal d (c .before .before .before .before .before .before .before .before .before .args .x) (c .before .before .before .before .before .before .before .before .before .args .g) (s .result) (c .before .before .before .before .before .row-of .result) (s .ensures .0) (c .before .before .before .before .before .before .if1 .left) i (sym (c .before .before .before .before .field .ensures) ∙ c .before .before .before .if2 .taken))
+    (step-internal (from .args .chart .now) (from .args .x) (from .args .g) (s .result) (i .result) (s .ensures .0) n e z)
 
 returns-3 : tie.Need-returns-3
 returns-3 c =
-    let d = c .before .before .before .before .before .before .before .before .before .args .chart .now in
+    let from = c .before .before .before .before .before .before .before .before .before in
     let s = c .before .before .before .before .before .before .before .find-source in
-    let i = row-found (c .before .before .before .before .before .before .before .before .before .pre) (s .result) (c .before .before .before .before .before .before .if1 .left) (s .ensures .1) (c .before .before .before .before .before .row-of .ensures .0) in
+    let i = c .before .before .before .before .before .row-of in
+    let n = c .before .before .before .before .before .before .if1 .left in
+    let e = row-found (from .pre) (s .result) n (s .ensures .1) (i .ensures .0) in
+    let z : byte (from .args .chart .now) (i .result) 3 ≡ 0 → ⊥ = λ q. c .before .before .before .if2 .left (c .before .before .before .before .field .ensures ∙ q) in
     rw (c .move-to .ensures, c .before .field4 .ensures, c .before .before .field3 .ensures)
-    (step-moved d (c .before .before .before .before .before .before .before .before .before .args .x) (c .before .before .before .before .before .before .before .before .before .args .g) (s .result) (c .before .before .before .before .before .row-of .result) (s .ensures .0) (c .before .before .before .before .before .before .if1 .left) i (λ z. c .before .before .before .if2 .left (c .before .before .before .before .field .ensures ∙ z)))
+    (step-moved (from .args .chart .now) (from .args .x) (from .args .g) (s .result) (i .result) (s .ensures .0) n e z)
 
 pub step-of-spec : {M : Type 1} → statement M
 step-of-spec =

@@ -1,8 +1,8 @@
 use borrow.Author.Needs.{needs}
 use Rattle.ground.specs.Bools.{refused, passed}
 use Rattle.chart.specs.Chart.{rowOk}
-use Rattle.chart.proofs.check.row_ok.Statement.{statement}
-use Rattle.chart.proofs.check.row_ok.Tie as tie
+use Rattle.chart.proofs.faults.row_ok.Statement.{statement}
+use Rattle.chart.proofs.faults.row_ok.Tie as tie
 
 returns : tie.Need-returns
 unfolding rowOk

@@ -1,8 +1,8 @@
 use borrow.Author.Needs.{needs}
 use borrow.Author.Tests.{eq-eqb, ne-eqb}
 use Rattle.chart.specs.Chart.{formOk}
-use Rattle.chart.proofs.check.form_ok.Statement.{statement}
-use Rattle.chart.proofs.check.form_ok.Tie as tie
+use Rattle.chart.proofs.faults.form_ok.Statement.{statement}
+use Rattle.chart.proofs.faults.form_ok.Tie as tie
 
 returns : tie.Need-returns
 unfolding formOk

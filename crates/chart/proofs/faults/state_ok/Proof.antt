@@ -2,8 +2,8 @@ use borrow.Author.Needs.{needs}
 use borrow.Author.Tests.{eq-eqb, ne-eqb, lt-ltb, le-ltb}
 use Rattle.ground.specs.Bools.{refused, passed}
 use Rattle.chart.specs.Chart.{stateOk}
-use Rattle.chart.proofs.check.state_ok.Statement.{statement}
-use Rattle.chart.proofs.check.state_ok.Tie as tie
+use Rattle.chart.proofs.faults.state_ok.Statement.{statement}
+use Rattle.chart.proofs.faults.state_ok.Tie as tie
 
 returns : tie.Need-returns
 unfolding stateOk

@@ -1,6 +1,6 @@
 use borrow.Author.Tests.{eq-eqb, ne-eqb, le-leb, lt-leb}
-use Rattle.chart.proofs.check.kind_at.Statement.{statement}
-use Rattle.chart.proofs.check.kind_at.Tie as tie
+use Rattle.chart.proofs.faults.kind_at.Statement.{statement}
+use Rattle.chart.proofs.faults.kind_at.Tie as tie
 
 returns : tie.Need-returns
 returns c = simp (eq-eqb _ _ (c .if1 .taken))

@@ -1,7 +1,7 @@
 use borrow.Author.Needs.{needs}
 use borrow.Author.Tests.{eq-eqb, ne-eqb}
-use Rattle.chart.proofs.check.target_ok.Statement.{statement}
-use Rattle.chart.proofs.check.target_ok.Tie as tie
+use Rattle.chart.proofs.faults.target_ok.Statement.{statement}
+use Rattle.chart.proofs.faults.target_ok.Tie as tie
 
 returns : tie.Need-returns
 returns c = simp (eq-eqb _ _ (c .if1 .taken))

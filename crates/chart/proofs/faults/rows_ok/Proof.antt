@@ -10,8 +10,8 @@ use Rattle.ground.specs.Range.{every}
 use Rattle.chart.specs.Chart.{rowsOk}
 use Rattle.chart.specs.Held.{keyBefore, rowGood}
 use Rattle.chart.proofs.Laws.{key-first, key-next}
-use Rattle.chart.proofs.check.rows_ok.Statement.{statement}
-use Rattle.chart.proofs.check.rows_ok.Tie as tie
+use Rattle.chart.proofs.faults.rows_ok.Statement.{statement}
+use Rattle.chart.proofs.faults.rows_ok.Tie as tie
 
 abbrev Inv-loop : tie.InvT-loop
 Inv-loop chart n e i₀ before₀ i before = (n + 1 ≤ i) × (before ≡ keyBefore n chart i) × (every (rowGood n chart) i e ≡ rowsOk n chart)
@@ -35,11 +35,12 @@ loop-again : tie.Need-loop-again Inv-loop μ-loop
 loop-again c =
     let d = c .before .before .before .before .before .before .before .before .args .chart .now in
     let n = c .before .before .before .before .before .before .before .before .args .n in
-    let i = c .before .before .before .before .before .before .loop .i in
-    let q : rowGood n d i ≡ true = cc (tail-part d (8 * i), passed (c .before .before .before .row-ok .ensures) (c .before .before .if1 .left), c .before .before .before .before .before .before .loop .inv .1) in (
+    let at = c .before .before .before .before .before .before .loop in
+    let i = at .i in
+    let q : rowGood n d i ≡ true = cc (tail-part d (8 * i), passed (c .before .before .before .row-ok .ensures) (c .before .before .if1 .left), at .inv .1) in (
       search needs,
       cc (tail-part d (8 * i), key-next n d i (search needs), c .key-of .ensures),
-      sym (every-pass (rowGood n d) i (length d / 8) (search needs) q) ∙ c .before .before .before .before .before .before .loop .inv .2,
+      sym (every-pass (rowGood n d) i (length d / 8) (search needs) q) ∙ at .inv .2,
     )
 
 returns-2 : tie.Need-returns-2 Inv-loop μ-loop

@@ -1,7 +1,7 @@
 use borrow.Author.Tests.{eq-eqb, ne-eqb}
 use Rattle.chart.specs.Chart.{lengthOk}
-use Rattle.chart.proofs.check.length_ok.Statement.{statement}
-use Rattle.chart.proofs.check.length_ok.Tie as tie
+use Rattle.chart.proofs.faults.length_ok.Statement.{statement}
+use Rattle.chart.proofs.faults.length_ok.Tie as tie
 
 returns : tie.Need-returns
 unfolding lengthOk

@@ -8,8 +8,8 @@ use Rattle.ground.specs.Parts.{tail-part}
 use Rattle.ground.specs.Range.{every}
 use Rattle.chart.specs.Chart.{treeOk}
 use Rattle.chart.specs.Held.{stateAt}
-use Rattle.chart.proofs.check.tree_ok.Statement.{statement}
-use Rattle.chart.proofs.check.tree_ok.Tie as tie
+use Rattle.chart.proofs.faults.tree_ok.Statement.{statement}
+use Rattle.chart.proofs.faults.tree_ok.Tie as tie
 
 abbrev Inv-loop : tie.InvT-loop
 Inv-loop chart n e i₀ i = (1 ≤ i) × (i ≤ e) × (every (stateAt n chart) i e ≡ treeOk n chart)

@@ -1,7 +1,7 @@
 use borrow.Author.Needs.{needs}
 use Rattle.ground.specs.Bools.{refused, passed}
-use Rattle.chart.proofs.check.lies_within.Statement.{statement}
-use Rattle.chart.proofs.check.lies_within.Tie as tie
+use Rattle.chart.proofs.faults.lies_within.Statement.{statement}
+use Rattle.chart.proofs.faults.lies_within.Tie as tie
 
 returns : tie.Need-returns
 returns c = simp (refused (c .before .is-among .ensures) (c .if1 .taken))

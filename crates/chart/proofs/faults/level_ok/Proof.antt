@@ -4,8 +4,8 @@ use Prim.Native.Nat.{_≤_, _-_}
 use lib.Dec.{eqb}
 use Rattle.chart.specs.Held.{up}
 use Rattle.chart.proofs.Laws.{up-more, up-done, level-same}
-use Rattle.chart.proofs.check.level_ok.Statement.{statement}
-use Rattle.chart.proofs.check.level_ok.Tie as tie
+use Rattle.chart.proofs.faults.level_ok.Statement.{statement}
+use Rattle.chart.proofs.faults.level_ok.Tie as tie
 
 abbrev Inv-loop : tie.InvT-loop
 Inv-loop chart s t₀ k₀ t k = (k ≤ 6) × (up (6 - k) chart t ≡ up 6 chart s)

@@ -10,8 +10,8 @@ use Rattle.ground.specs.Parts.{tail-part}
 use Rattle.ground.specs.Range.{every}
 use Rattle.chart.specs.Chart.{formsOk, among}
 use Rattle.chart.specs.Held.{formAt}
-use Rattle.chart.proofs.check.forms_ok.Statement.{statement}
-use Rattle.chart.proofs.check.forms_ok.Tie as tie
+use Rattle.chart.proofs.faults.forms_ok.Statement.{statement}
+use Rattle.chart.proofs.faults.forms_ok.Tie as tie
 
 abbrev Inv-loop : tie.InvT-loop
 Inv-loop chart n e i₀ i = (i ≤ e) × ((every (formAt n chart) i e && among 24 n) ≡ formsOk n chart)
