@@ -14,7 +14,7 @@ use Rattle.chart.specs.Flat.{place, rowAt, slotBytes}
 use Rattle.chart.specs.Step
 use Rattle.chart.specs.Step.{Answer, step, start}
 
-pub shift : List ℕ
+unfoldable pub shift : List ℕ
 shift =
     3 ∷ 1 ∷ 10 ∷ 0 ∷ 0 ∷ 0 ∷ 0 ∷ 0
     ∷ 1 ∷ 0 ∷ 11 ∷ 12 ∷ 2 ∷ 13 ∷ 0 ∷ 0

@@ -5,12 +5,14 @@ use mathlib.Core.Path.{_≡_, sym, ap, _∙_}
 use Prim.Native.Nat.{ℕ, _<_, _≤_}
 use native.Mathlib.Omega.{arith}
 use lib.ListN.{length, getD, set}
-use lib.Seq.{getD-set-same, getD-set-other, set-out, set-getD}
+use lib.Seq.{ext-getD, getD-set-same, getD-set-other, set-out, set-getD}
+use Rattle.ground.specs.Range.{tab}
 use Rattle.ground.specs.Tab.{length-tab, getD-tab, getD-tab-out, tab-set}
 use Rattle.pool.specs.Cell.{Cell, absent}
 use Rattle.pool.specs.Inside.{cellAt, cellOf, freed, rowOf}
 use Rattle.pool.specs.Promise.{Frees}
-use Rattle.pool.specs.Row.{at, blocks, changed}
+use Rattle.pool.specs.Row.{at, blocks, changed, generationAt}
+use Rattle.pool.proofs.Count.{generation-is}
 
 module _ (gens counts : List ℕ) (b : ℕ) where
   pub at-in : b < blocks → at (rowOf gens counts) b ≡ cellAt gens counts b
@@ -67,3 +69,10 @@ module _ (gens counts : List ℕ) (b : ℕ) where
         pub frees : (t : List Cell) → t ≡ changed freed (rowOf gens counts) b →
             (freed (cellAt gens counts b) ≡ f (cellAt gens counts b)) × (freeing (cellAt gens counts b) ≡ true) → Frees f freeing (rowOf gens counts) b t true
         frees t r e = record { answer = rw (at-in h) (sym (e .1)); row = r ∙ rw (at-in h) (ap (set (rowOf gens counts) b) (e .0)) }
+
+pub generations-are : (gens counts : List ℕ) → length gens ≡ blocks → gens ≡ tab (generationAt (rowOf gens counts)) blocks
+unfolding generationAt
+generations-are gens counts l =
+    ext-getD 0 _ _ (l ∙ sym (length-tab (generationAt (rowOf gens counts)) blocks)) (λ j h.
+    let k : j < blocks = omega arith in
+    sym (getD-tab (generationAt (rowOf gens counts)) blocks j 0 k ∙ rw (at-in gens counts j k) (generation-is _ _)))

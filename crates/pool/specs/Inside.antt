@@ -1,7 +1,8 @@
 -- How a pool's two arrays stand for a row. For this crate's proofs alone: no other crate names this file.
 use mathlib.Core.List.{List}
+use mathlib.Core.Path.{_≡_}
 use Prim.Native.Nat.{ℕ, zero, suc}
-use lib.ListN.{getD}
+use lib.ListN.{length, getD}
 use Rattle.ground.specs.Range.{tab}
 use Rattle.pool.specs.Cell.{Cell, free, live, generationOf, nextGeneration}
 use Rattle.pool.specs.Row.{blocks}
@@ -24,3 +25,8 @@ cells p = rowOf (p .gens) (p .counts)
 -- What freeing makes of any block.
 unfoldable pub freed : Cell → Cell
 freed c = free (nextGeneration (generationOf c))
+
+-- The arrays have their lengths.
+pub record Sized (gens counts : List ℕ) : Type 0 where
+  pub gens-length : length gens ≡ blocks
+  pub counts-length : length counts ≡ blocks

@@ -1,18 +1,19 @@
 -- Laws of rows, for the layers above: what a change does, what a take finds.
 use mathlib.Core.Bool.{Bool, true, false, cond}
-use mathlib.Core.List.{List}
+use mathlib.Core.List.{List, [], _∷_, _++_}
 use mathlib.Core.Path.{_≡_, refl, subst}
 use Prim.Native.Nat.{ℕ, _+_, _-_, _<_, _≤_}
+use native.Mathlib.Numerals.{add-one}
 use native.Mathlib.Omega.{arith}
 use borrow.Author.Tests.{lt-ltb, le-ltb, ltb-true}
 use lib.Dec.{leb, ltb}
-use lib.ListN.{length, set, length-set}
-use lib.Seq.{getD-set-same, getD-set-other}
+use lib.ListN.{length, getD, set, drop, length-set, drop-of-length-le}
+use lib.Seq.{getD-set-same, getD-set-other, drop-cons}
 use Rattle.ground.specs.Bools.{cond-pick}
 use Rattle.ground.specs.Range.{firstFrom}
 use Rattle.ground.specs.Search.{First, first-is, first-only}
-use Rattle.pool.specs.Cell.{Cell, absent, isFree}
-use Rattle.pool.specs.Row.{at, blocks, changed, poolFor, lowestFree, foundIn}
+use Rattle.pool.specs.Cell.{Cell, absent, isFree, fewer}
+use Rattle.pool.specs.Row.{at, blocks, changed, poolFor, lowestFree, foundIn, goneAll}
 use Rattle.pool.specs.declared.Found.{Found}
 use Rattle.pool.specs.declared.Found.the-variants.{At, Nothing}
 use Rattle.pool.specs.declared.Span.{Span}
@@ -76,3 +77,18 @@ pool-end size =
   where
     ends : Span → Type 0
     ends pool = pool .to ≤ blocks
+
+-- Letting go of a list: of two lists one after the other, and one turn of a loop that lets go, at place i.
+pub gone-append : (s : List Cell) (l m : List ℕ) → goneAll s (l ++ m) ≡ goneAll (goneAll s l) m
+unfolding goneAll
+gone-append s [] m = refl
+gone-append s (b ∷ l) m = gone-append (changed fewer s b) l m
+
+module _ (s : List Cell) (l : List ℕ) (i : ℕ) where
+  pub gone-turn : i < length l → goneAll s (drop i l) ≡ goneAll (changed fewer s (getD l i 0)) (drop (i + 1) l)
+  unfolding goneAll
+  gone-turn h = rw (drop-cons l i 0 h, add-one) refl
+
+  pub gone-end : length l ≤ i → goneAll s (drop i l) ≡ s
+  unfolding goneAll
+  gone-end h = rw (drop-of-length-le l h) refl

@@ -3,11 +3,12 @@
 ghost use mathlib.Core.Path.{_≡_};
 ghost use mathlib.Core.List.{List};
 ghost use Prim.Native.Nat.{ℕ, _-_, _<_, _≤_};
-ghost use Rattle.ground.specs.Range.{firstFrom};
+ghost use Rattle.ground.specs.Range.{firstFrom, tab};
 ghost use Rattle.pool.specs.Cell.{isFree, isNew, atLast, nextGeneration, more, fewer, dropped};
-ghost use Rattle.pool.specs.Inside.{cells, freed, rowOf};
+ghost use Rattle.pool.specs.Inside.{cells, freed, rowOf, Sized};
 ghost use Rattle.pool.specs.Promise.{Takes, Frees};
-ghost use Rattle.pool.specs.Row.{at, changed, freshRow, generationAt, staleAt, poolFor, lowestFree};
+ghost use Rattle.pool.specs.Row.{at, changed, freshRow, generationAt, staleAt, poolFor, lowestFree, goneAll};
+use ground::wide;
 
 const BLOCKS: usize = 56;
 
@@ -137,45 +138,61 @@ fn next_generation(g: u8) -> u8
 }
 
 // Block b is free, one generation on.
-fn set_free(p: Pool, b: usize) -> Pool
-    requires { ⌜ b < 56 ⌝ }
-    ensures { λ r. ⌜ cells r ≡ changed freed (cells p) b ⌝ }
+fn set_free(gens: &mut [u8; 56], counts: &mut [u16; 56], b: usize)
+    requires { ⌜ Sized (now gens) (now counts) × (b < 56) ⌝ }
+    ensures { λ _. ⌜ rowOf (now (gens .exit)) (now (counts .exit)) ≡ changed freed (rowOf (now (gens .entry)) (now (counts .entry))) b ⌝ }
+    ensures { λ _. ⌜ Sized (now (gens .exit)) (now (counts .exit)) ⌝ }
 {
-    let mut q = p;
-    q.gens[b] = next_generation(q.gens[b]);
-    q.counts[b] = FREE;
-    q
+    gens[b] = next_generation(gens[b]);
+    counts[b] = FREE;
+}
+
+// One reference fewer in the arrays of a pool; the last one frees the block.
+fn let_go_in(gens: &mut [u8; 56], counts: &mut [u16; 56], b: usize) -> bool
+    requires { ⌜ Sized (now gens) (now counts) ⌝ }
+    ensures { λ r. ⌜ Frees fewer atLast (rowOf (now (gens .entry)) (now (counts .entry))) b (rowOf (now (gens .exit)) (now (counts .exit))) r ⌝ }
+    ensures { λ _. ⌜ Sized (now (gens .exit)) (now (counts .exit)) ⌝ }
+{
+    if BLOCKS <= b {
+        return false;
+    }
+    let n = counts[b];
+    if n < LAST {
+        return false;
+    }
+    if n == LAST {
+        set_free(gens, counts, b);
+        return true;
+    }
+    counts[b] = n - 1;
+    false
 }
 
 // One reference fewer; the last one frees the block.
 pub fn let_go(p: Pool, b: usize) -> Gone
     ensures { λ r. ⌜ Frees fewer atLast (cells p) b (cells (r .pool)) (r .freed) ⌝ }
 {
-    let mut q = p;
-    if BLOCKS <= b {
-        return Gone {
-            pool: q,
-            freed: false,
-        };
-    }
-    let n = q.counts[b];
-    if n < LAST {
-        return Gone {
-            pool: q,
-            freed: false,
-        };
-    }
-    if n == LAST {
-        return Gone {
-            pool: set_free(q, b),
-            freed: true,
-        };
-    }
-    q.counts[b] = n - 1;
+    let mut gens = p.gens;
+    let mut counts = p.counts;
+    let freed = let_go_in(&mut gens, &mut counts, b);
     Gone {
-        pool: q,
-        freed: false,
+        pool: Pool { gens, counts },
+        freed: freed,
     }
+}
+
+// Each block of a list has a reference fewer, in order.
+pub fn let_go_all(p: Pool, list: &[u8]) -> Pool
+    ensures { λ r. ⌜ cells r ≡ goneAll (cells p) (now (list .entry)) ⌝ }
+{
+    let mut gens = p.gens;
+    let mut counts = p.counts;
+    let mut i = 0;
+    while i < list.len() {
+        let_go_in(&mut gens, &mut counts, wide(list[i]));
+        i += 1;
+    }
+    Pool { gens, counts }
 }
 
 // A block that has no reference yet is freed.
@@ -189,8 +206,11 @@ pub fn drop_new(p: Pool, b: usize) -> Gone
         };
     }
     if p.counts[b] == NEW {
+        let mut gens = p.gens;
+        let mut counts = p.counts;
+        set_free(&mut gens, &mut counts, b);
         return Gone {
-            pool: set_free(p, b),
+            pool: Pool { gens, counts },
             freed: true,
         };
     }
@@ -208,6 +228,13 @@ pub fn generation(p: Pool, b: usize) -> u8
         return 0;
     }
     p.gens[b]
+}
+
+// The generation of every block.
+pub fn generations(p: Pool) -> [u8; 56]
+    ensures { λ r. ⌜ r ≡ tab (generationAt (cells p)) 56 ⌝ }
+{
+    p.gens
 }
 
 // Whether the handle of block b at generation g is stale.

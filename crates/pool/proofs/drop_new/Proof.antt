@@ -13,7 +13,9 @@ returns c = frees-out _ _ _ dropped isNew refl (c .if1 .taken)
 
 returns-2 : tie.Need-returns-2
 unfolding cells
-returns-2 c = frees _ _ _ dropped isNew (c .before .before .before .if1 .left) _ (c .set-free .ensures) (dropped-new _ _ (c .before .if2 .taken))
+returns-2 c =
+    frees _ _ _ dropped isNew (c .before .before .before .before .before .before .before .if1 .left) _ (c .set-free .ensures .0)
+    (dropped-new _ _ (c .before .before .before .before .before .if2 .taken))
 
 returns-3 : tie.Need-returns-3
 unfolding cells

@@ -1,0 +1,2 @@
+-- Laws: what a step finds, and what it makes of the arrays.
+pub mod Laws

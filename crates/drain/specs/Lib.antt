@@ -1,0 +1,2 @@
+-- Turn: what one step reads, needs and makes of the arrays.
+pub mod Turn

@@ -1,0 +1,164 @@
+-- Every reply has 24 bytes and a number up to 15; a refusal leaves everything else as it was.
+use mathlib.Core.Bool.{Bool, true, false, cond, not, _&&_}
+use mathlib.Core.List.{List, [], _∷_, _++_}
+use mathlib.Core.Path.{_≡_, refl}
+use Prim.Native.Nat.{ℕ, zero, suc, _≤_, _<_}
+use native.Mathlib.Omega.{arith}
+use borrow.Author.Tests.{leb-true, not-true}
+use lib.Dec.{eqb, leb}
+use lib.ListN.{length, getD, drop, replicate, length-append, length-replicate}
+use lib.Seq.{length-take-le}
+use Rattle.ground.specs.Bytes.{padded}
+use Rattle.ground.specs.Padding.{length-padded}
+use Rattle.ground.specs.Bools.{and-left, and-right, cond-pick}
+use Rattle.chart.specs.Chart.{classOf}
+use Rattle.pool.specs.declared.Found.{Found}
+use Rattle.pool.specs.declared.Found.the-variants.{At, Nothing}
+use Rattle.machine.proofs.Dispatch.{OfEach, answer-all}
+use Rattle.machine.proofs.Tests.{unless-pick, fault-pick}
+use Rattle.machine.specs.Charts.{loadTests, load, startTests, start}
+use Rattle.machine.specs.Clocks.{armTests, arm, disarmTests, disarm, tickDone, tick}
+use Rattle.machine.specs.Events.{
+  newTests,
+  newIn,
+  new,
+  postTests,
+  post,
+  postFrontTests,
+  postFront,
+  publishTests,
+  publishDone,
+  publish,
+  subscribeTests,
+  subscribe,
+  unsubscribe,
+  holdTests,
+  hold,
+  releaseTests,
+  release,
+  dropTests,
+  dropEvent,
+  readTests,
+  read,
+}
+use Rattle.machine.specs.Machine.{answerTo}
+use Rattle.machine.specs.Numbers.{replyBytes}
+use Rattle.machine.specs.Reply.{FORM, CHART, Said, no, badChart, done, ran, shown, bytes, replyOf, Areas, Answer, answer, lowest, unless, unlessFault}
+use Rattle.machine.specs.State.{State}
+use Rattle.machine.specs.Steps.{stepTests, nextTests, nextSays, next, endTests, end, drainTests, drainDone, drain}
+
+pub reply-length : (w : Said) → length (replyOf w) ≡ replyBytes
+unfolding replyOf bytes
+reply-length (no n) = omega (arith, length-padded 18 [])
+reply-length (badChart c) = omega (arith, length-padded 18 [])
+reply-length (done v w) = omega (arith, length-padded 18 [])
+reply-length (ran p g v w row) = omega (arith, length-padded 18 (drop 3 row))
+reply-length (shown l) = omega (arith, length-padded 18 l)
+
+-- The number of an answer.
+abbrev pub numberOf : Answer → ℕ
+numberOf a = getD (a .reply) 0 0
+
+-- A refusal: only the reply is written, which is the number and zeros, but for CHART, whose value byte is the class of the chart d.
+pub record Refuses (d : List ℕ) (s : State) (z : Areas) (a : Answer) : Type 0 where
+  pub state : a .state ≡ s
+  pub areas : a .areas ≡ z
+  pub reply : a .reply ≡ numberOf a ∷ 0 ∷ 0 ∷ 0 ∷ cond (eqb (numberOf a) CHART) (classOf d) 0 ∷ replicate 19 0
+
+pub record Replies (d : List ℕ) (s : State) (z : Areas) (a : Answer) : Type 0 where
+  pub long : length (a .reply) ≡ replyBytes
+  pub small : numberOf a ≤ 15
+  pub refusal : 0 < numberOf a → Refuses d s z a
+
+-- The numbers of a list of tests are refusals other than CHART: of a list that is written out this computes.
+abbrev refusals : List (ℕ × Bool) → Bool
+refusals [] = true
+refusals (x ∷ l) = leb (x .0) 15 && (not (eqb (x .0) CHART) && refusals l)
+
+record Refusal (n : ℕ) : Type 0 where
+  small : n ≤ 15
+  other : eqb n CHART ≡ false
+
+refusal-is : (l : List (ℕ × Bool)) → refusals l ≡ true → Refusal (lowest l)
+unfolding lowest
+refusal-is [] h = record { small = omega arith; other = refl }
+refusal-is (x ∷ l) h =
+    let more = and-right (leb (x .0) 15) (not (eqb (x .0) CHART) && refusals l) h in
+    cond-pick Refusal (x .1) (x .0) (lowest l)
+    (λ e. record {
+      small = leb-true (x .0) 15 (and-left (leb (x .0) 15) (not (eqb (x .0) CHART) && refusals l) h);
+      other = not-true _ (and-left (not (eqb (x .0) CHART)) (refusals l) more);
+    })
+    (λ e. refusal-is l (and-right (not (eqb (x .0) CHART)) (refusals l) more))
+
+module _ (d : List ℕ) (s : State) (z : Areas) where
+  -- what is done has the number 0
+  module _ (t : State) (y : Areas) where
+    does : (w : Said) → getD (replyOf w) 0 0 ≡ 0 → Replies d s z (answer t w y)
+    does w e = record { long = reply-length w; small = omega arith; refusal = λ h. absurd (omega arith) }
+
+    says : (v w : ℕ) → Replies d s z (answer t (done v w) y)
+    unfolding replyOf bytes
+    says v w = does (done v w) refl
+
+    runs : (p g v w : ℕ) (row : List ℕ) → Replies d s z (answer t (ran p g v w row) y)
+    unfolding replyOf bytes
+    runs p g v w row = does (ran p g v w row) refl
+
+    shows : (l : List ℕ) → Replies d s z (answer t (shown l) y)
+    unfolding replyOf bytes
+    shows l = does (shown l) refl
+
+  refuses : (n : ℕ) → Refusal n → Replies d s z (answer s (no n) z)
+  unfolding replyOf bytes padded
+  refuses n r = record { long = reply-length (no n); small = r .small; refusal = λ h. record { state = refl; areas = refl; reply = rw (r .other) refl } }
+
+  unless-replies : (l : List (ℕ × Bool)) (a : Answer) → refusals l ≡ true → Replies d s z a → Replies d s z (unless (lowest l) s z a)
+  unless-replies l a h k = unless-pick s z a (Replies d s z) (lowest l) (λ n e. refuses (suc n) (rw e at (refusal-is l h))) (λ e. k)
+
+  -- LOAD, whose chart has a class
+  fault-replies : (a : Answer) → Replies d s z a → Replies d s z (unlessFault (classOf d) s z a)
+  unfolding replyOf bytes padded
+  fault-replies a k =
+      fault-pick s z a (Replies d s z) (classOf d)
+      (λ c e. record { long = reply-length (badChart (suc c)); small = omega arith; refusal = λ h. record { state = refl; areas = refl; reply = rw e refl } })
+      (λ e. k)
+
+  newIn-replies : (f : Found) (g n : ℕ) (payload : List ℕ) → Replies d s z (newIn f g n payload s z)
+  unfolding newIn
+  newIn-replies (At b) g n payload = says _ _ _ _
+  newIn-replies Nothing g n payload = says _ _ _ _
+
+  publishDone-replies : (n b : ℕ) → Replies d s z (publishDone n b s z)
+  unfolding publishDone
+  publishDone-replies zero b = says _ _ _ _
+  publishDone-replies (suc n) b = says _ _ _ _
+
+  each : OfEach (Replies d s z) d s z
+  unfolding load loadTests start startTests arm armTests disarm disarmTests tick tickDone
+      new newTests post postTests postFront postFrontTests publish publishTests subscribe unsubscribe subscribeTests hold holdTests
+      release releaseTests dropEvent dropTests read readTests next nextTests stepTests nextSays end endTests drain drainTests drainDone
+  each = record {
+    load = λ u q. unless-replies (loadTests u q s (z .tables)) _ refl (fault-replies _ (says _ _ _ _));
+    start = λ u p q depth. unless-replies (startTests u p q depth s (z .tables)) _ refl (runs _ _ _ _ _ _ _);
+    new = λ u g n payload. unless-replies (newTests u g n s (z .payloads)) _ refl (newIn-replies _ g n payload);
+    post = λ u b gen p margin. unless-replies (postTests u b gen p margin s) _ refl (says _ _ _ _);
+    postFront = λ u b gen p. unless-replies (postFrontTests u b gen p s) _ refl (says _ _ _ _);
+    publish = λ u b gen. unless-replies (publishTests u b gen s) _ refl (publishDone-replies _ b);
+    subscribe = λ u p g. unless-replies (subscribeTests u p g s) _ refl (says _ _ _ _);
+    unsubscribe = λ u p g. unless-replies (subscribeTests u p g s) _ refl (says _ _ _ _);
+    hold = λ u b gen. unless-replies (holdTests u b gen s) _ refl (says _ _ _ _);
+    release = λ u b gen. unless-replies (releaseTests u b gen s) _ refl (says _ _ _ _);
+    dropEvent = λ u b gen. unless-replies (dropTests u b gen s) _ refl (says _ _ _ _);
+    next = λ u. unless-replies (nextTests u s (z .tables)) _ refl (runs _ _ _ _ _ _ _);
+    end = λ u. unless-replies (endTests u s) _ refl (says _ _ _ _);
+    arm = λ u t p g ticks interval. unless-replies (armTests u t p g ticks s) _ refl (says _ _ _ _);
+    disarm = λ u t. unless-replies (disarmTests u t) _ refl (says _ _ _ _);
+    tick = λ u. unless-replies ((FORM, u) ∷ []) _ refl (says _ _ _ _);
+    read = λ u b gen. unless-replies (readTests u b gen s (z .payloads)) _ refl (shows _ _ _);
+    drain = λ u budget. unless-replies (drainTests u s (z .tables) (z .log)) _ refl (says _ _ _ _);
+    form = refuses FORM (record { small = omega arith; other = refl });
+  }
+
+pub replies : (s : State) (r d : List ℕ) (z : Areas) → Replies d s z (answerTo s r d z)
+replies s r d z = answer-all (Replies d s z) r d s z (each d s z)

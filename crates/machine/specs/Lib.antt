@@ -1,0 +1,10 @@
+-- To be believed, in document 01's order: Numbers, State, Reply, the commands (Charts, Events, Steps, Clocks), Machine. Inv: what is kept.
+pub mod Charts
+pub mod Clocks
+pub mod Events
+pub mod Inv
+pub mod Machine
+pub mod Numbers
+pub mod Reply
+pub mod State
+pub mod Steps

@@ -1,0 +1,117 @@
+-- Document 01, "The reply record": the refusals by name, the bytes of every reply, and what a command answers.
+use mathlib.Core.Bool.{Bool, true, false, cond}
+use mathlib.Core.List.{List, [], _∷_, _++_}
+use Prim.Native.Nat.{ℕ, zero, suc, _+_, _*_}
+use lib.ListN.{length, getD, take, drop}
+use Rattle.ground.specs.Bytes.{padded}
+use Rattle.machine.specs.State.{State}
+
+abbrev pub DONE : ℕ
+DONE = 0
+
+abbrev pub FORM : ℕ
+FORM = 1
+
+abbrev pub AREA : ℕ
+AREA = 2
+
+abbrev pub RANGE : ℕ
+RANGE = 3
+
+abbrev pub BUSY : ℕ
+BUSY = 4
+
+abbrev pub NOSTEP : ℕ
+NOSTEP = 5
+
+abbrev pub IDLE : ℕ
+IDLE = 6
+
+abbrev pub STALE : ℕ
+STALE = 7
+
+abbrev pub ABSENT : ℕ
+ABSENT = 8
+
+abbrev pub TAKEN : ℕ
+TAKEN = 9
+
+abbrev pub FULL : ℕ
+FULL = 10
+
+abbrev pub DRY : ℕ
+DRY = 11
+
+abbrev pub HOLDS : ℕ
+HOLDS = 12
+
+abbrev pub INUSE : ℕ
+INUSE = 13
+
+abbrev pub CHART : ℕ
+CHART = 14
+
+abbrev pub TABLE : ℕ
+TABLE = 15
+
+-- What a reply says: a refusal by its number; CHART with the class; DONE with two values; DONE of START and NEXT with the object, the
+-- signal, two values and the row that was taken; DONE of READ with the payload.
+pub data Said : Type 0 where
+  no : ℕ → Said
+  badChart : ℕ → Said
+  done : ℕ → ℕ → Said
+  ran : ℕ → ℕ → ℕ → ℕ → List ℕ → Said
+  shown : List ℕ → Said
+
+-- Reply number, object, outcome × 32 + signal, count, two value bytes, 18 actions.
+unfoldable pub bytes : ℕ → ℕ → ℕ → ℕ → ℕ → ℕ → ℕ → List ℕ → List ℕ
+bytes n p outcome g count v w acts = n ∷ p ∷ (outcome * 32 + g) ∷ count ∷ v ∷ w ∷ padded 18 acts
+
+unfoldable pub replyOf : Said → List ℕ
+replyOf (no n) = bytes n 0 0 0 0 0 0 []
+replyOf (badChart c) = bytes CHART 0 0 0 0 c 0 []
+replyOf (done v w) = bytes DONE 0 0 0 0 v w []
+replyOf (ran p g v w row) = bytes DONE p (getD row 1 0) g (getD row 2 0) v w (drop 3 row)
+replyOf (shown l) = bytes DONE 0 0 0 (length (take 18 l)) (length l) 0 l
+
+-- The areas that a call is lent, and what it answers: the state, the reply, and the areas.
+pub record Areas : Type 0 where
+  pub payloads : List ℕ
+  pub tables : List ℕ
+  pub log : List ℕ
+
+pub record Answer : Type 0 where
+  pub state : State
+  pub reply : List ℕ
+  pub areas : Areas
+
+abbrev pub answer : State → Said → Areas → Answer
+answer s w z = record { state = s; reply = replyOf w; areas = z }
+
+-- Of tests in ascending number, the number of the first that holds, and 0 where none does.
+unfoldable pub lowest : List (ℕ × Bool) → ℕ
+lowest [] = 0
+lowest (x ∷ l) = cond (x .1) (x .0) (lowest l)
+
+-- The lowest number that applies is given, and then only the reply is written; where none applies, a is what is done.
+unfoldable pub unless : ℕ → State → Areas → Answer → Answer
+unless zero s z a = a
+unless (suc n) s z a = answer s (no (suc n)) z
+
+-- CHART: a refused chart; the value byte is its class c.
+unfoldable pub unlessFault : ℕ → State → Areas → Answer → Answer
+unlessFault zero s z a = a
+unlessFault (suc c) s z a = answer s (badChart (suc c)) z
+
+-- The areas with one replaced, and the bytes v written over l from place i on.
+abbrev pub withPayloads : List ℕ → Areas → Areas
+withPayloads x z = record { payloads = x; tables = z .tables; log = z .log }
+
+abbrev pub withTables : List ℕ → Areas → Areas
+withTables x z = record { payloads = z .payloads; tables = x; log = z .log }
+
+abbrev pub withLog : List ℕ → Areas → Areas
+withLog x z = record { payloads = z .payloads; tables = z .tables; log = x }
+
+unfoldable pub over : List ℕ → ℕ → List ℕ → List ℕ
+over l i v = take i l ++ (v ++ drop (i + length v) l)

@@ -1,0 +1,141 @@
+-- The kernel's state, and a fresh start.
+use mathlib.Core.Bool.{Bool, true, false, cond, not, _&&_}
+use mathlib.Core.List.{List, [], _∷_}
+use Prim.Native.Nat.{ℕ, zero, suc, _+_, _*_, _-_}
+use lib.Dec.{eqb}
+use lib.ListN.{length, getD, replicate}
+use Rattle.mail.specs.Box.{boxAt, pushBack}
+use Rattle.mail.specs.declared.Hand.{Hand}
+use Rattle.mail.specs.declared.Hand.the-variants.{Nothing, Block, Timer}
+use Rattle.pool.specs.Cell.{Cell}
+use Rattle.pool.specs.Row.{freshRow}
+use Rattle.machine.specs.Numbers.{objects, blocks, timers, slots}
+
+-- Of the event in each of the 56 blocks: its signal, its size, its holds.
+pub record Events : Type 0 where
+  pub signals : List ℕ
+  pub sizes : List ℕ
+  pub holds : List ℕ
+
+-- Of each of the 16 objects: the depth of its mailbox (0: not started), its state of rest, its chart slot. Object p has place p - 1.
+pub record Objects : Type 0 where
+  pub depths : List ℕ
+  pub rests : List ℕ
+  pub seats : List ℕ
+
+-- Of each of the 16 timers: its object, its signal, the ticks that are left (0: not armed), its interval.
+pub record Timers : Type 0 where
+  pub owners : List ℕ
+  pub alarms : List ℕ
+  pub counters : List ℕ
+  pub intervals : List ℕ
+
+pub record State : Type 0 where
+  -- the 56 blocks: free, or live with so many references
+  pub cells : List Cell
+  pub events : Events
+  -- the mailboxes, one list of entries an object, front first
+  pub boxes : List (List ℕ)
+  pub objects : Objects
+  -- 1 at place 32 (p - 1) + g: object p subscribes to signal g
+  pub wants : List ℕ
+  -- 1 for each of the 4 slots that has a chart
+  pub loaded : List ℕ
+  pub timers : Timers
+  -- the event in hand: a step is open while there is one
+  pub hand : Hand
+
+abbrev pub freshState : State
+freshState = record {
+  cells = freshRow;
+  events = record { signals = replicate blocks 0; sizes = replicate blocks 0; holds = replicate blocks 0 };
+  boxes = replicate objects [];
+  objects = record { depths = replicate objects 0; rests = replicate objects 0; seats = replicate objects 0 };
+  wants = replicate (32 * objects) 0;
+  loaded = replicate slots 0;
+  timers = record { owners = replicate timers 0; alarms = replicate timers 0; counters = replicate timers 0; intervals = replicate timers 0 };
+  hand = Nothing;
+}
+
+-- Reading.
+abbrev pub signalIn : State → ℕ → ℕ
+signalIn s b = getD (s .events .signals) b 0
+
+abbrev pub sizeIn : State → ℕ → ℕ
+sizeIn s b = getD (s .events .sizes) b 0
+
+abbrev pub holdsOn : State → ℕ → ℕ
+holdsOn s b = getD (s .events .holds) b 0
+
+abbrev pub boxOf : State → ℕ → List ℕ
+boxOf s p = boxAt (s .boxes) (p - 1)
+
+abbrev pub depthOf : State → ℕ → ℕ
+depthOf s p = getD (s .objects .depths) (p - 1) 0
+
+abbrev pub restOf : State → ℕ → ℕ
+restOf s p = getD (s .objects .rests) (p - 1) 0
+
+abbrev pub slotOf : State → ℕ → ℕ
+slotOf s p = getD (s .objects .seats) (p - 1) 0
+
+abbrev pub started : State → ℕ → Bool
+started s p = not (eqb (depthOf s p) 0)
+
+-- the free places of p's mailbox
+abbrev pub room : State → ℕ → ℕ
+room s p = depthOf s p - length (boxOf s p)
+
+abbrev pub isLoaded : State → ℕ → Bool
+isLoaded s q = eqb (getD (s .loaded) q 0) 1
+
+abbrev pub wantPlace : ℕ → ℕ → ℕ
+wantPlace p g = 32 * (p - 1) + g
+
+abbrev pub subscribed : State → ℕ → ℕ → Bool
+subscribed s p g = eqb (getD (s .wants) (wantPlace p g) 0) 1
+
+abbrev pub counterOf : State → ℕ → ℕ
+counterOf s t = getD (s .timers .counters) t 0
+
+abbrev pub armed : State → ℕ → Bool
+armed s t = not (eqb (counterOf s t) 0)
+
+unfoldable pub isOpen : Hand → Bool
+isOpen Nothing = false
+isOpen (Block b) = true
+isOpen (Timer t g) = true
+
+-- The state with one part replaced.
+abbrev pub withCells : List Cell → State → State
+withCells x s = record { cells = x; events = s .events; boxes = s .boxes; objects = s .objects; wants = s .wants; loaded = s .loaded; timers = s .timers; hand = s .hand }
+
+abbrev pub withEvents : Events → State → State
+withEvents x s = record { cells = s .cells; events = x; boxes = s .boxes; objects = s .objects; wants = s .wants; loaded = s .loaded; timers = s .timers; hand = s .hand }
+
+abbrev pub withBoxes : List (List ℕ) → State → State
+withBoxes x s = record { cells = s .cells; events = s .events; boxes = x; objects = s .objects; wants = s .wants; loaded = s .loaded; timers = s .timers; hand = s .hand }
+
+abbrev pub withObjects : Objects → State → State
+withObjects x s = record { cells = s .cells; events = s .events; boxes = s .boxes; objects = x; wants = s .wants; loaded = s .loaded; timers = s .timers; hand = s .hand }
+
+abbrev pub withWants : List ℕ → State → State
+withWants x s = record { cells = s .cells; events = s .events; boxes = s .boxes; objects = s .objects; wants = x; loaded = s .loaded; timers = s .timers; hand = s .hand }
+
+abbrev pub withLoaded : List ℕ → State → State
+withLoaded x s = record { cells = s .cells; events = s .events; boxes = s .boxes; objects = s .objects; wants = s .wants; loaded = x; timers = s .timers; hand = s .hand }
+
+abbrev pub withTimers : Timers → State → State
+withTimers x s = record { cells = s .cells; events = s .events; boxes = s .boxes; objects = s .objects; wants = s .wants; loaded = s .loaded; timers = x; hand = s .hand }
+
+abbrev pub withHand : Hand → State → State
+withHand x s = record { cells = s .cells; events = s .events; boxes = s .boxes; objects = s .objects; wants = s .wants; loaded = s .loaded; timers = s .timers; hand = x }
+
+abbrev pub withHolds : List ℕ → State → State
+withHolds x s = withEvents (record { signals = s .events .signals; sizes = s .events .sizes; holds = x }) s
+
+abbrev pub withRests : List ℕ → State → State
+withRests x s = withObjects (record { depths = s .objects .depths; rests = x; seats = s .objects .seats }) s
+
+abbrev pub withCounters : List ℕ → State → State
+withCounters x s = withTimers (record { owners = s .timers .owners; alarms = s .timers .alarms; counters = x; intervals = s .timers .intervals }) s

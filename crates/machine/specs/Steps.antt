@@ -1,0 +1,123 @@
+-- Document 01, "Commands": steps. NEXT, END, DRAIN.
+use mathlib.Core.Bool.{Bool, true, false, cond, not, _||_}
+use mathlib.Core.List.{List, [], _∷_}
+use Prim.Native.Nat.{ℕ, zero, suc, _+_, _*_, _-_}
+use lib.Dec.{eqb, ltb}
+use lib.ListN.{length, getD, set}
+use Rattle.chart.specs.Flat.{place, rowAt, sound}
+use Rattle.chart.specs.Numbers.{slotSize}
+use Rattle.mail.specs.Box.{front, highest, one, tookFront}
+use Rattle.mail.specs.Entry.{handOf}
+use Rattle.mail.specs.declared.Hand.{Hand}
+use Rattle.mail.specs.declared.Hand.the-variants.{Nothing, Block, Timer}
+use Rattle.pool.specs.Row.{generationAt}
+use Rattle.machine.specs.Charts.{tablesBad}
+use Rattle.machine.specs.Events.{letGo, isLast}
+use Rattle.machine.specs.Numbers.{replyBytes, logBytes}
+use Rattle.machine.specs.State.{State, signalIn, restOf, slotOf, isOpen, withBoxes, withRests, withHand}
+use Rattle.machine.specs.Reply.{FORM, AREA, BUSY, NOSTEP, IDLE, TABLE, Said, done, ran, replyOf, Areas, Answer, answer, lowest, unless, withLog, over}
+
+-- 12 NEXT: the front event of the highest object with mail leaves the mailbox, is in hand, and the row for (rest, signal) is taken: its
+-- next state is the new rest at once. The object, its front event, that event's signal and handle, and the row:
+abbrev pub toRun : State → ℕ
+toRun s = highest (s .boxes)
+
+unfoldable pub coming : State → Hand
+coming s = handOf (front (s .boxes) (toRun s - 1))
+
+unfoldable pub signalOf : State → Hand → ℕ
+signalOf s Nothing = 0
+signalOf s (Block b) = signalIn s b
+signalOf s (Timer t g) = g
+
+unfoldable pub handle₁ : Hand → ℕ
+handle₁ Nothing = 0
+handle₁ (Block b) = b
+handle₁ (Timer t g) = 128 + t
+
+unfoldable pub handle₂ : State → Hand → ℕ
+handle₂ s Nothing = 0
+handle₂ s (Block b) = generationAt (s .cells) b
+handle₂ s (Timer t g) = 0
+
+unfoldable pub nextRow : State → List ℕ → List ℕ
+nextRow s tables = rowAt tables (slotSize * slotOf s (toRun s) + place (restOf s (toRun s)) (signalOf s (coming s)))
+
+-- nothing queued, unsound row
+unfoldable pub stepTests : State → List ℕ → List (ℕ × Bool)
+stepTests s tables = (IDLE, eqb (toRun s) 0) ∷ (TABLE, not (sound (nextRow s tables))) ∷ []
+
+unfoldable pub nextTests : Bool → State → List ℕ → List (ℕ × Bool)
+nextTests spoilt s tables =
+    (FORM, spoilt)
+    ∷ (AREA, tablesBad tables)
+    ∷ (BUSY, isOpen (s .hand))
+    ∷ stepTests s tables
+
+unfoldable pub stepped : State → List ℕ → State
+stepped s tables =
+    withBoxes (tookFront (s .boxes) (toRun s - 1))
+    (withRests (set (s .objects .rests) (toRun s - 1) (getD (nextRow s tables) 0 0))
+    (withHand (coming s) s))
+
+unfoldable pub nextSays : State → List ℕ → Said
+nextSays s tables = ran (toRun s) (signalOf s (coming s)) (handle₁ (coming s)) (handle₂ s (coming s)) (nextRow s tables)
+
+unfoldable pub next : Bool → State → Areas → Answer
+next spoilt s z = unless (lowest (nextTests spoilt s (z .tables))) s z (answer (stepped s (z .tables)) (nextSays s (z .tables)) z)
+
+-- 13 END: the event in hand is let go; 1 if freed.
+unfoldable pub letGoHand : Hand → State → State
+letGoHand Nothing s = s
+letGoHand (Block b) s = letGo s b
+letGoHand (Timer t g) s = s
+
+unfoldable pub frees : Hand → State → Bool
+frees Nothing s = false
+frees (Block b) s = isLast s b
+frees (Timer t g) s = false
+
+unfoldable pub ended : State → State
+ended s = withHand Nothing (letGoHand (s .hand) s)
+
+unfoldable pub endTests : Bool → State → List (ℕ × Bool)
+endTests spoilt s = (FORM, spoilt) ∷ (NOSTEP, not (isOpen (s .hand))) ∷ []
+
+unfoldable pub end : Bool → State → Areas → Answer
+end spoilt s z = unless (lowest (endTests spoilt s)) s z (answer (ended s) (done (one (frees (s .hand) s)) 0) z)
+
+-- 18 DRAIN budget 0-255: NEXT and END until the budget is spent, nothing is queued, or a row is unsound (that event stays at the front).
+-- The log: one NEXT answer per step, in order, the rest untouched.
+pub record Drained : Type 0 where
+  pub steps : ℕ
+  pub state : State
+  pub log : List ℕ
+
+unfoldable pub logged : State → List ℕ → ℕ → List ℕ → List ℕ
+logged s tables n log = over log (replyBytes * n) (replyOf (nextSays s tables))
+
+-- at most k steps more, after n
+unfoldable pub drainFrom : ℕ → ℕ → State → List ℕ → List ℕ → Drained
+drainFrom zero n s tables log = record { steps = n; state = s; log = log }
+drainFrom (suc k) n s tables log =
+    let rest : Drained = drainFrom k (n + 1) (ended (stepped s tables)) tables (logged s tables n log) in
+    cond (eqb (lowest (stepTests s tables)) 0) rest (record { steps = n; state = s; log = log })
+
+-- 1 if nothing is queued, else 2 if stopped below budget, else 0
+unfoldable pub drainEnd : ℕ → Drained → ℕ
+drainEnd budget x = cond (eqb (toRun (x .state)) 0) 1 (cond (ltb (x .steps) budget) 2 0)
+
+unfoldable pub drainTests : Bool → State → List ℕ → List ℕ → List (ℕ × Bool)
+drainTests spoilt s tables log =
+    (FORM, spoilt)
+    ∷ (AREA, tablesBad tables)
+    ∷ (AREA, not (eqb (length log) logBytes))
+    ∷ (BUSY, isOpen (s .hand))
+    ∷ []
+
+unfoldable pub drainDone : ℕ → Drained → Areas → Answer
+drainDone budget x z = answer (x .state) (done (x .steps) (drainEnd budget x)) (withLog (x .log) z)
+
+unfoldable pub drain : Bool → ℕ → State → Areas → Answer
+drain spoilt budget s z =
+    unless (lowest (drainTests spoilt s (z .tables) (z .log))) s z (drainDone budget (drainFrom budget 0 s (z .tables) (z .log)) z)

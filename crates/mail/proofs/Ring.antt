@@ -1,0 +1,51 @@
+-- What a store does to one mailbox's ring.
+use mathlib.Core.List.{List}
+use mathlib.Core.Path.{_≡_, refl, ap}
+use Prim.Native.Nat.{ℕ, zero, suc, _+_, _*_, _-_, _<_}
+use native.Mathlib.Nat.{not-suc-le-zero}
+use native.Mathlib.Numerals.{add-one}
+use native.Mathlib.Omega.{arith}
+use lib.ListN.{length, getD, set}
+use lib.Seq.{getD-set-same, getD-set-other}
+use Rattle.ground.specs.Range.{tab}
+use Rattle.ground.specs.Tab.{getD-tab, tab-ext, tab-cons, tab-snoc}
+use Rattle.mail.specs.Box.{objects, room, behind, ahead, rest}
+use Rattle.mail.specs.Inside.{placeOf, oneBack, oneOn, entryAt, ring}
+
+-- the ring of another object has no part in it
+pub ring-other : (pl : List ℕ) (q h i e k h' n : ℕ) → (k ≡ q → ⊥) → ring (set pl (placeOf q h i) e) k h' n ≡ ring pl k h' n
+unfolding ring
+ring-other pl q h i e k h' n ne = tab-ext _ _ n (λ j l. getD-set-other pl (placeOf q h i) (placeOf k h' j) e 0 (λ z. ne (omega arith)))
+
+module _ (pl : List ℕ) (q h n : ℕ) where
+  module _ (e : ℕ) (l : q < objects) (m : length pl ≡ objects * room) (k : n < room) where
+    pub ring-back : ring (set pl (placeOf q h n) e) q h (n + 1) ≡ behind e (ring pl q h n)
+    unfolding ring behind
+    ring-back =
+        let new : entryAt (set pl (placeOf q h n) e) q h n ≡ e = getD-set-same pl (placeOf q h n) e 0 (omega arith) in
+        let old : tab (entryAt (set pl (placeOf q h n) e) q h) n ≡ tab (entryAt pl q h) n =
+        tab-ext _ _ n (λ i j. getD-set-other pl (placeOf q h n) (placeOf q h i) e 0 (λ z. omega arith)) in
+        rw (add-one, tab-snoc, new, old) refl
+
+    pub ring-front : ring (set pl (placeOf q (oneBack h) 0) e) q (oneBack h) (n + 1) ≡ ahead e (ring pl q h n)
+    unfolding ring ahead
+    ring-front =
+        let h' = oneBack h in
+        let new : entryAt (set pl (placeOf q h' 0) e) q h' 0 ≡ e = getD-set-same pl (placeOf q h' 0) e 0 (omega arith) in
+        let old : tab (λ i. entryAt (set pl (placeOf q h' 0) e) q h' (suc i)) n ≡ tab (entryAt pl q h) n =
+        tab-ext _ _ n (λ i j.
+        let on : placeOf q h' (suc i) ≡ placeOf q h i = omega arith in
+        rw on (getD-set-other pl (placeOf q h' 0) (placeOf q h i) e 0 (λ z. omega arith))) in
+        rw (add-one, tab-cons, new, old) refl
+
+  pub ring-first : 0 < n → getD (ring pl q h n) 0 0 ≡ entryAt pl q h 0
+  unfolding ring
+  ring-first k = getD-tab (entryAt pl q h) n 0 0 k
+
+pub ring-rest : (pl : List ℕ) (q h n : ℕ) → 0 < n → ring pl q (oneOn h) (n - 1) ≡ rest (ring pl q h n)
+unfolding ring rest
+ring-rest pl q h zero l = absurd (not-suc-le-zero l)
+ring-rest pl q h (suc n) l =
+    let z : suc n - 1 ≡ n = omega arith in
+    rw (z, tab-cons)
+    (tab-ext _ _ n (λ i j. let on : placeOf q (oneOn h) i ≡ placeOf q h (suc i) = omega arith in ap (λ (x : ℕ). getD pl x 0) on))

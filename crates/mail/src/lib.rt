@@ -1,0 +1,135 @@
+// The mailboxes: for each of 16 objects a ring of 16 places, all in one array. Objects are counted from 0 here. What stands above
+// relies on the promises alone, which speak of `boxes places heads counts`, the lists of entries that the three arrays hold.
+ghost use mathlib.Core.List.{List};
+ghost use mathlib.Core.Path.{_≡_};
+ghost use Prim.Native.Nat.{ℕ, _+_, _-_, _<_, _≤_};
+ghost use lib.ListN.{getD, set};
+ghost use Rattle.mail.specs.Box.{pushBack, pushFront, tookFront, front, highest};
+ghost use Rattle.mail.specs.Entry.{entryOf, handOf};
+ghost use Rattle.mail.specs.Inside.{placeOf, boxes, Mail, Holds};
+use ground::wide;
+
+const OBJECTS: usize = 16;
+
+// The places of one mailbox. One place back in the ring is fifteen on.
+const PLACES: usize = 16;
+
+const ONE_BACK: usize = 15;
+
+// Entry 0 is nothing, 1 to 63 are the blocks; from 64 on each timer has an entry for every signal.
+const FIRST_TIMER: u16 = 64;
+
+const SIGNALS: u16 = 32;
+
+const BYTES: u16 = 256;
+
+// What an entry stands for: a block, or a timer with its signal.
+pub enum Hand {
+    Nothing,
+    Block(u8),
+    Timer(u8, u8),
+}
+
+// The place of entry i, counted from the front, in the mailbox of object q with its head at h.
+fn place(q: usize, h: usize, i: usize) -> usize
+    requires { ⌜ (q < 16) × (h < 256) × (i < 256) ⌝ }
+    ensures { λ r. ⌜ (r ≡ placeOf q h i) × (r < 256) ⌝ }
+{
+    PLACES * q + (h + i) % PLACES
+}
+
+pub fn push_back(places: &mut [u16; 256], heads: &[u8; 16], counts: &mut [u8; 16], q: usize, e: u16)
+    requires { ⌜ Mail (now places) (now heads) (now counts) ⌝ }
+    requires { ⌜ (q < 16) × (getD (now counts) q 0 < 16) ⌝ }
+    ensures { λ r. ⌜ Holds (now (places .exit)) (now (heads .entry)) (now (counts .exit))
+        (pushBack (boxes (now (places .entry)) (now (heads .entry)) (now (counts .entry))) q e) ⌝ }
+    ensures { λ r. ⌜ now (counts .exit) ≡ set (now (counts .entry)) q (getD (now (counts .entry)) q 0 + 1) ⌝ }
+{
+    let n = wide(counts[q]);
+    let h = wide(heads[q]);
+    places[place(q, h, n)] = e;
+    counts[q] = (n + 1) as u8;
+}
+
+pub fn push_front(
+    places: &mut [u16; 256],
+    heads: &mut [u8; 16],
+    counts: &mut [u8; 16],
+    q: usize,
+    e: u16,
+)
+    requires { ⌜ Mail (now places) (now heads) (now counts) ⌝ }
+    requires { ⌜ (q < 16) × (getD (now counts) q 0 < 16) ⌝ }
+    ensures { λ r. ⌜ Holds (now (places .exit)) (now (heads .exit)) (now (counts .exit))
+        (pushFront (boxes (now (places .entry)) (now (heads .entry)) (now (counts .entry))) q e) ⌝ }
+    ensures { λ r. ⌜ now (counts .exit) ≡ set (now (counts .entry)) q (getD (now (counts .entry)) q 0 + 1) ⌝ }
+{
+    let n = counts[q];
+    let h = (wide(heads[q]) + ONE_BACK) % PLACES;
+    places[place(q, h, 0)] = e;
+    heads[q] = h as u8;
+    counts[q] = n + 1;
+}
+
+// The front entry, which leaves.
+pub fn take_front(places: &[u16; 256], heads: &mut [u8; 16], counts: &mut [u8; 16], q: usize) -> u16
+    requires { ⌜ Mail (now places) (now heads) (now counts) ⌝ }
+    requires { ⌜ (q < 16) × (0 < getD (now counts) q 0) ⌝ }
+    ensures { λ r. ⌜ Holds (now (places .entry)) (now (heads .exit)) (now (counts .exit))
+        (tookFront (boxes (now (places .entry)) (now (heads .entry)) (now (counts .entry))) q) ⌝ }
+    ensures { λ r. ⌜ r ≡ front (boxes (now (places .entry)) (now (heads .entry)) (now (counts .entry))) q ⌝ }
+    ensures { λ r. ⌜ now (counts .exit) ≡ set (now (counts .entry)) q (getD (now (counts .entry)) q 0 - 1) ⌝ }
+{
+    let left = wide(counts[q]) - 1;
+    let h = wide(heads[q]);
+    let e = places[place(q, h, 0)];
+    heads[q] = ((h + 1) % PLACES) as u8;
+    counts[q] = left as u8;
+    e
+}
+
+// The front entry, which stays.
+pub fn front(places: &[u16; 256], heads: &[u8; 16], counts: &[u8; 16], q: usize) -> u16
+    requires { ⌜ (q < 16) × (0 < getD (now counts) q 0) ⌝ }
+    ensures { λ r. ⌜ r ≡ front (boxes (now (places .entry)) (now (heads .entry)) (now (counts .entry))) q ⌝ }
+{
+    places[place(q, wide(heads[q]), 0)]
+}
+
+// The highest object with mail, counted from 1; 0 where nothing is queued. The counts alone say it.
+pub fn highest(counts: &[u8; 16]) -> usize
+    ensures { λ r. ⌜ ((places heads : List ℕ) → r ≡ highest (boxes places heads (now (counts .entry)))) ⌝ }
+    ensures { λ r. ⌜ r ≤ 16 ⌝ }
+{
+    let mut p: usize = OBJECTS;
+    while 0 < p {
+        if counts[p - 1] != 0 {
+            return p;
+        }
+        p -= 1;
+    }
+    0
+}
+
+pub fn hand_of(e: u16) -> Hand
+    ensures { λ r. ⌜ r ≡ handOf e ⌝ }
+{
+    if e == 0 {
+        return Hand::Nothing;
+    }
+    if e < FIRST_TIMER {
+        return Hand::Block((e - 1) as u8);
+    }
+    let n = e - FIRST_TIMER;
+    Hand::Timer((n / SIGNALS % BYTES) as u8, (n % SIGNALS) as u8)
+}
+
+pub fn entry_of(h: Hand) -> u16
+    ensures { λ r. ⌜ r ≡ entryOf h ⌝ }
+{
+    match h {
+        Hand::Nothing => 0,
+        Hand::Block(b) => 1 + b as u16,
+        Hand::Timer(t, g) => FIRST_TIMER + SIGNALS * (t as u16) + g as u16,
+    }
+}

@@ -1,0 +1,30 @@
+use borrow.Author.Needs.{needs}
+use mathlib.Core.Bool.{cond}
+use mathlib.Core.List.{List, append-nil}
+use mathlib.Core.Path.{_≡_, refl}
+use native.Mathlib.Decide.{decLt}
+use native.Mathlib.Omega.{arith}
+use Prim.Native.Nat.{ℕ, _<_, _≤_}
+use borrow.Author.Tests.{le-ltb, lt-ltb}
+use lib.Dec.{ltb}
+use lib.ListN.{length, take}
+use lib.Seq.{take-all, length-take-le}
+use Rattle.machine.specs.Reply.{bytes, replyOf}
+use Rattle.reply.proofs.shown.Statement.{statement}
+use Rattle.reply.proofs.shown.Tie as tie
+
+count-of : (l : List ℕ) → cond (ltb (length l) 18) (length l) 18 ≡ length (take 18 l)
+count-of l = go (decLt (length l) 18)
+  where
+    go : Dec (length l < 18) → cond (ltb (length l) 18) (length l) 18 ≡ length (take 18 l)
+    go (yes h) = rw (lt-ltb (length l) 18 h, take-all 18 l (omega arith)) refl
+    go (no h) = rw (le-ltb (length l) 18 (omega arith), length-take-le 18 l (omega arith)) refl
+
+returns : tie.Need-returns
+unfolding replyOf bytes
+returns c = rw (append-nil, c .before .before .fill .ensures, c .least .ensures .0, count-of) refl
+
+pub shown-spec : {M : Type 1} → statement M
+shown-spec =
+    tie.close
+    (tie.spec (λ c. search needs) (λ c. search needs) (λ c. search needs) (λ c κs. search needs) (λ c κs. search needs) (λ c. omega (arith, c .least .ensures .1)) (λ c. search needs) (λ c. search needs) (λ c. search needs) returns)

@@ -1,0 +1,111 @@
+// The 24 bytes of every reply, and the tests that refuse.
+pub mod refusals;
+
+ghost use mathlib.Core.Bool.{cond};
+ghost use mathlib.Core.Path.{_≡_};
+ghost use Prim.Native.Nat.{_≤_, _<_};
+ghost use lib.Dec.{ltb};
+ghost use lib.ListN.{length, getD};
+ghost use Rattle.machine.specs.Numbers as numbers;
+ghost use Rattle.machine.specs.Reply.{no, badChart, replyOf};
+ghost use Rattle.machine.specs.Reply as said;
+use ground::fill;
+use refusals::CHART;
+
+const NUMBER: usize = 0;
+
+const OBJECT: usize = 1;
+
+const OUTCOME: usize = 2;
+
+const COUNT: usize = 3;
+
+const FIRST_VALUE: usize = 4;
+
+const SECOND_VALUE: usize = 5;
+
+const ACTIONS: usize = 6;
+
+const BYTES: usize = 24;
+
+const MOST_ACTIONS: usize = 18;
+
+// Of tests in a row, the number of the first that holds.
+pub fn first(n: u8, test: bool, rest: u8) -> u8
+    ensures { λ r. ⌜ r ≡ cond test n rest ⌝ }
+{
+    if test { n } else { rest }
+}
+
+// Whether n is not one of low to high.
+pub fn outside(low: usize, high: usize, n: usize) -> bool
+    ensures { λ r. ⌜ r ≡ numbers.outside low high n ⌝ }
+{
+    if n < low {
+        return true;
+    }
+    high < n
+}
+
+// A refusal by its number.
+pub fn refused(n: u8) -> [u8; 24]
+    ensures { λ r. ⌜ r ≡ replyOf (no n) ⌝ }
+{
+    let mut r = [0u8; BYTES];
+    r[NUMBER] = n;
+    r
+}
+
+// A refused chart, with its class.
+pub fn bad_chart(class: u8) -> [u8; 24]
+    ensures { λ r. ⌜ r ≡ replyOf (badChart class) ⌝ }
+{
+    let mut r = [0u8; BYTES];
+    r[NUMBER] = CHART;
+    r[FIRST_VALUE] = class;
+    r
+}
+
+// Done, with two values.
+pub fn done(v: u8, w: u8) -> [u8; 24]
+    ensures { λ r. ⌜ r ≡ replyOf (said.done v w) ⌝ }
+{
+    let mut r = [0u8; BYTES];
+    r[FIRST_VALUE] = v;
+    r[SECOND_VALUE] = w;
+    r
+}
+
+// The answer of START and NEXT: object p took the row with the signal g.
+pub fn ran(p: u8, g: u8, v: u8, w: u8, row: &[u8]) -> [u8; 24]
+    requires { ⌜ (length (now row) ≡ 24) × (getD (now row) 1 0 ≤ 2) × (g < 32) ⌝ }
+    ensures { λ r. ⌜ r ≡ replyOf (said.ran p g v w (now (row .entry))) ⌝ }
+{
+    let mut r = [0u8; BYTES];
+    fill(&mut r[ACTIONS..BYTES], &row[3..BYTES]);
+    r[OBJECT] = p;
+    r[OUTCOME] = row[1] * 32 + g;
+    r[COUNT] = row[2];
+    r[FIRST_VALUE] = v;
+    r[SECOND_VALUE] = w;
+    r
+}
+
+fn least(a: usize, b: usize) -> usize
+    ensures { λ r. ⌜ (r ≡ cond (ltb a b) a b) × (r ≤ b) ⌝ }
+{
+    if a < b { a } else { b }
+}
+
+// The answer of READ: the payload's length, and as much of it as there is room for.
+pub fn shown(payload: &[u8]) -> [u8; 24]
+    requires { ⌜ length (now payload) ≤ 64 ⌝ }
+    ensures { λ r. ⌜ r ≡ replyOf (said.shown (now (payload .entry))) ⌝ }
+{
+    let n = payload.len();
+    let mut r = [0u8; BYTES];
+    fill(&mut r[ACTIONS..BYTES], payload);
+    r[COUNT] = least(n, MOST_ACTIONS) as u8;
+    r[FIRST_VALUE] = n as u8;
+    r
+}

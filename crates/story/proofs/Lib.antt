@@ -1,0 +1,25 @@
+-- Theorems says what is proved; Examples shows that none of it is empty. The others, by subject: Dispatch, Made and Frames: from the commands
+-- to any record, what a call did that was done, what only some commands change. Numbers, Lines, Refusals: the table. Cells, Blocks, Counting:
+-- blocks. Taking and Starting: NEXT and START. Draining and Pairs: DRAIN. Charted, Tables, Nested, Resting: charts and tables. Over: bytes
+-- written over others. Payloads: payloads, and the lengths of the areas.
+pub mod Blocks
+pub mod Cells
+pub mod Charted
+pub mod Counting
+pub mod Dispatch
+pub mod Draining
+pub mod Examples
+pub mod Frames
+pub mod Lines
+pub mod Made
+pub mod Nested
+pub mod Numbers
+pub mod Over
+pub mod Pairs
+pub mod Payloads
+pub mod Refusals
+pub mod Resting
+pub mod Starting
+pub mod Tables
+pub mod Taking
+pub mod Theorems

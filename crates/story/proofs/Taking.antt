@@ -1,0 +1,75 @@
+-- Demand 2, NEXT: it takes the front event of the highest object with mail.
+use mathlib.Core.List.{List, [], _∷_}
+use mathlib.Core.Path.{_≡_, refl, sym, subst}
+use Prim.Native.Nat.{ℕ, _-_}
+use native.Mathlib.Omega.{arith}
+use borrow.Author.Tests.{eqb-true, not-false}
+use lib.ListN.{length, getD}
+use Rattle.mail.specs.Box.{rest}
+use Rattle.mail.specs.Laws.{highest-is, changed-here, changed-other}
+use Rattle.machine.proofs.KeepsSteps.{Ready, ready}
+use Rattle.machine.proofs.Tests.{none-holds}
+use Rattle.machine.specs.Numbers.{objects, tableBytes}
+use Rattle.machine.specs.Reply.{Areas, Answer, answer, replyOf, bytes}
+use Rattle.machine.specs.State.{State}
+use Rattle.machine.specs.Steps.{toRun, coming, handle₁, handle₂, stepTests, nextTests, stepped, nextSays}
+use Rattle.story.specs.Calls.{Call, Story, kernel, answerIn}
+use Rattle.story.specs.Demands.{Taken}
+use Rattle.story.specs.Table.{NEXT}
+use Rattle.story.specs.Terms.{object, Did, Takes}
+use Rattle.story.proofs.Made.{next-made}
+use Rattle.story.proofs.Refusals.{kept}
+
+-- What NEXT answers, byte by byte, and where it leaves the kernel.
+pub record Steps (s : State) (tables : List ℕ) (a : Answer) : Type 0 where
+  pub state : a .state ≡ stepped s tables
+  pub object : getD (a .reply) 1 0 ≡ toRun s
+  pub value₁ : getD (a .reply) 4 0 ≡ handle₁ (coming s)
+  pub value₂ : getD (a .reply) 5 0 ≡ handle₂ s (coming s)
+  pub hand : a .state .hand ≡ coming s
+  pub reply : a .reply ≡ replyOf (nextSays s tables)
+
+steps-of : (s : State) (z : Areas) (a : Answer) → a ≡ answer (stepped s (z .tables)) (nextSays s (z .tables)) z → Steps s (z .tables) a
+unfolding stepped nextSays replyOf bytes
+steps-of s z a e = record { state = rw e refl; object = rw e refl; value₁ = rw e refl; value₂ = rw e refl; hand = rw e refl; reply = rw e refl }
+
+pub next-steps : (h : Story) (c : Call) → Did NEXT h c → Steps (kernel h) (c .areas .tables) (answerIn h c)
+next-steps h c did =
+    steps-of (kernel h) (c .areas) _ (next-made (kernel h) (c .command) (c .chart) (c .areas) (did .1) (did .0) .is)
+
+pub next-ready : (h : Story) (c : Call) → Did NEXT h c → Ready (kernel h)
+unfolding nextTests stepTests
+next-ready h c did =
+    let m = next-made (kernel h) (c .command) (c .chart) (c .areas) (did .1) (did .0) in
+    ready (kernel h) (none-holds (nextTests _ (kernel h) (c .areas .tables)) refl (m .none) .1 .1 .1 .0)
+
+pub next-whole : (h : Story) (c : Call) → Did NEXT h c → length (c .areas .tables) ≡ tableBytes
+unfolding nextTests stepTests
+next-whole h c did =
+    let m = next-made (kernel h) (c .command) (c .chart) (c .areas) (did .1) (did .0) in
+    eqb-true _ tableBytes (not-false _ (none-holds (nextTests _ (kernel h) (c .areas .tables)) refl (m .none) .1 .0))
+
+empty : (l : List ℕ) → length l ≡ 0 → l ≡ []
+empty [] e = refl
+empty (x ∷ l) e = absurd (omega arith)
+
+takes : (h : Story) (c : Call) → Did NEXT h c → Takes h c (toRun (kernel h))
+unfolding kernel stepped coming
+takes h c did =
+    let s = kernel h in
+    let r = next-ready h c did in
+    let x = next-steps h c did in
+    let e = x .state in
+    record {
+      low = r .low;
+      high = r .high;
+      mail = r .mail;
+      highest = λ q l m. empty _ (highest-is (s .boxes) objects .none-above (q - 1) (omega arith) (omega arith));
+      in-hand = x .hand;
+      left = rw e (changed-here rest (s .boxes) (toRun s - 1) (omega (arith, r .low, r .high, kept h .mail .boxes-length)));
+      others = λ q l ne. rw e (changed-other rest (s .boxes) (toRun s - 1) (q - 1) (λ n. ne (omega (arith, r .low))));
+      handle = (rw (x .hand) (x .value₁), rw (x .hand) (x .value₂));
+    }
+
+pub taken : Taken
+taken h c did = subst (Takes h c) (sym (next-steps h c did .object)) (takes h c did)

@@ -1,0 +1,106 @@
+-- The theorems, each of the statement of its name in specs/Demands.antt. Over each: what would make it empty, and why it is not. `Meets` is
+-- the run of Examples.antt, whose fields say which of its calls meets a hypothesis.
+use Rattle.story.specs.Demands
+use Rattle.story.proofs.Counting
+use Rattle.story.proofs.Nested
+use Rattle.story.proofs.Pairs
+use Rattle.story.proofs.Payloads
+use Rattle.story.proofs.Refusals
+use Rattle.story.proofs.Resting
+use Rattle.story.proofs.Taking
+
+-- ## Demand 1
+-- No hypothesis: of every story and every call.
+pub answered : Demands.Answered
+answered = Refusals.answered
+
+-- Both sides of an equivalence might never hold: STALE and TABLE are answered in `Meets`, refuses and unsound.
+pub refused : Demands.Refused
+refused = Refusals.refused
+
+-- A table of which some line always applies: `Meets`, loads, starts, news and others.
+pub done : Demands.Done
+done = Refusals.done
+
+-- No refusals: `Meets`, refuses.
+pub untouched : Demands.Untouched
+untouched = Refusals.untouched
+
+-- No hypothesis.
+pub lengths : Demands.Lengths
+lengths = Payloads.lengths
+
+-- ## Demand 2
+-- Blocks that are all free: block 0 is new, then counts 1 and 2 in `expected` of Examples.antt, and is free again.
+pub counted : Demands.Counted
+counted = Counting.counted
+
+-- No live block, or none that is freed: `Meets`, held and last, new and gone, one for each side of the sum.
+pub freed : Demands.Freed
+freed = Counting.freed
+
+-- No hypothesis but the block's number. Block 0 goes from generation 0 to 3 in `expected`.
+pub generations : Demands.Generations
+generations = Counting.generations
+
+-- No NEW that is done: `Meets`, news and again.
+pub handed : Demands.Handed
+handed = Counting.handed
+
+-- The same; and with `handed` the lowest free block exists whenever NEW is done. In `Meets`, again, it is the block that was freed.
+pub again : Demands.Again
+again = Counting.again
+
+-- No block that is handed out: `Meets`, handed.
+pub onlyNew : Demands.OnlyNew
+onlyNew = Counting.onlyNew
+
+-- No NEXT that is done: `Meets`, nexts.
+pub taken : Demands.Taken
+taken = Taking.taken
+
+-- No DRAIN that is done, none that takes a step, none that stops below its budget: `Meets`, drains, step and stops.
+pub drained : Demands.Drained
+drained = Pairs.drained
+
+-- ## Demand 3
+-- Stories in which only the kernel writes to the tables, with no slot that is loaded: `Meets`, tables, honest and loads.
+pub tables : Demands.Tables
+tables = Nested.tables
+
+-- No START that is done in such a story: `Meets`, starts.
+pub starts : Demands.Starts
+starts = Nested.starts
+
+-- No NEXT that is done in such a story: `Meets`, nexts.
+pub nexts : Demands.Nexts
+nexts = Nested.nexts
+
+-- No DRAIN that takes a step in such a story: `Meets`, drains and step.
+pub drainSteps : Demands.DrainSteps
+drainSteps = Nested.drainSteps
+
+-- No object that moves: `Meets`, moves.
+pub rests : Demands.Rests
+rests = Resting.rests
+
+-- No started object: `Meets`, runs.
+pub seated : Demands.Seated
+seated = Resting.seated
+
+-- TABLE might never be answered at all: it is, and DRAIN stops at a row, once others write to the tables: `Meets`, unsound and stops.
+pub tableNever : Demands.TableNever
+tableNever = Resting.tableNever
+
+-- No LOAD that meets all the conditions: `Meets`, loadable.
+pub loads : Demands.Loads
+loads = Resting.loads
+
+-- ## Payloads
+-- No live block in a story where only the kernel writes to the payloads: `Meets`, payloads, held and new.
+pub payloads : Demands.Payloads
+payloads = Payloads.payloads
+
+-- No READ that is done in such a story: `Meets`, reads.
+pub reads : Demands.Reads
+reads = Payloads.reads

@@ -1,0 +1,142 @@
+-- The three demands, of any story h and any further call c: whatever the records, the charts and the areas are that the calls are given.
+-- Each statement is a type; its proof has the same name in small letters.
+use mathlib.Core.Bool.{true, false, cond, _&&_}
+use mathlib.Core.List.{List, _∷_}
+use mathlib.Core.Logic.{_↔_, _⊎_}
+use mathlib.Core.Path.{_≡_}
+use Prim.Native.Nat.{ℕ, _*_, _≤_, _<_}
+use lib.ListN.{length, take, drop, replicate}
+use Rattle.ground.specs.Bytes.{padded}
+use Rattle.chart.specs.Chart.{classOf, states}
+use Rattle.chart.specs.Numbers.{slotSize}
+use Rattle.chart.specs.Step.{start}
+use Rattle.pool.specs.Cell.{live, isFree, generationOf, nextGeneration}
+use Rattle.pool.specs.Laws.{Lowest}
+use Rattle.pool.specs.Row.{poolFor}
+use Rattle.machine.specs.Charts.{slotUsed}
+use Rattle.machine.specs.Inv.{isLive}
+use Rattle.machine.specs.Machine.{partOf}
+use Rattle.machine.specs.Numbers.{objects, blocks, slots, replyBytes, tableBytes, capacity, placeOf}
+use Rattle.machine.specs.Reply.{DONE, TABLE}
+use Rattle.machine.specs.State.{sizeIn, restOf, slotOf, started, isLoaded, isOpen}
+use Rattle.story.specs.Calls.{Call, Story, then, kernel, answerIn, payloadArea, tableArea, left, OnlyKernel}
+use Rattle.story.specs.Table.{LOAD, START, NEW, NEXT, READ, DRAIN}
+use Rattle.story.specs.Terms.{argument, reply, number, object, value₁, value₂, Did, appliesTo, chartIn, givenTo, cell, refer, Counts, LastGoes, NewGoes}
+use Rattle.story.specs.Terms.{nextCall, steps, logLine, says, signalTaken, nested, Unchanged, Takes, Drains, Holds}
+
+-- ## Demand 1
+-- "Any command record, chart and lent area, in any order of calls from a fresh start, gets an answer and never a trap."
+abbrev pub Answered : Type 0
+Answered = (h : Story) (c : Call) → (length (reply h c) ≡ replyBytes) × (number h c ≤ 15)
+
+-- "Each refusal has one number, comes exactly when its condition holds and no lower one's does": the conditions are the table's.
+abbrev pub Refused : Type 0
+Refused = (h : Story) (c : Call) (n : ℕ) → 0 < n → (number h c ≡ n) ↔ ((appliesTo h c n ≡ true) × ((m : ℕ) → m < n → appliesTo h c m ≡ false))
+
+abbrev pub Done : Type 0
+Done = (h : Story) (c : Call) → (number h c ≡ DONE) ↔ ((n : ℕ) → appliesTo h c n ≡ false)
+
+-- ".. and changes nothing": the kernel, the areas that the call was lent, and all of the reply.
+abbrev pub Untouched : Type 0
+Untouched = (h : Story) (c : Call) → 0 < number h c → Unchanged h c
+
+-- What is lent keeps its length.
+abbrev pub Lengths : Type 0
+Lengths =
+    (h : Story) (c : Call) → let z = answerIn h c .areas in
+    (length (z .payloads) ≡ length (c .areas .payloads)) × (length (z .tables) ≡ length (c .areas .tables)) × (length (z .log) ≡ length (c .areas .log))
+
+-- ## Demand 2
+-- "A block is free, new, or counted by mailbox entries, holds and the step in hand;"
+abbrev pub Counted : Type 0
+Counted = (h : Story) (b : ℕ) → b < blocks → Counts (cell h b) (refer h b)
+
+-- "it goes back exactly when the last of these is gone", or while new when it is dropped or published to nobody;
+abbrev pub Freed : Type 0
+Freed =
+    (h : Story) (c : Call) (b : ℕ) → b < blocks → isLive (cell h b) ≡ true →
+    (isFree (cell (then h c) b) ≡ true) ↔ (LastGoes h c b ⊎ NewGoes h c b)
+
+-- "each time the block is freed, [the generation] goes up by one and wraps from 255 to 0", and at nothing else;
+abbrev pub Generations : Type 0
+Generations =
+    (h : Story) (c : Call) (b : ℕ) → b < blocks → let g = generationOf (cell h b) in
+    generationOf (cell (then h c) b) ≡ cond (isLive (cell h b) && isFree (cell (then h c) b)) (nextGeneration g) g
+
+-- "and is handed out again": NEW hands out the lowest free block of the pool for its size, so a freed one that is this; and only NEW does.
+abbrev pub Handed : Type 0
+Handed =
+    (h : Story) (c : Call) → Did NEW h c → let b = value₁ h c in let g = generationOf (cell h b) in
+    Lowest (kernel h .cells) (poolFor (argument c 2)) b × (value₂ h c ≡ g) × (cell (then h c) b ≡ live g 0)
+
+abbrev pub Again : Type 0
+Again = (h : Story) (c : Call) (b : ℕ) → Did NEW h c → Lowest (kernel h .cells) (poolFor (argument c 2)) b → value₁ h c ≡ b
+
+abbrev pub OnlyNew : Type 0
+OnlyNew = (h : Story) (c : Call) (b : ℕ) → isFree (cell h b) ≡ true → isLive (cell (then h c) b) ≡ true → Did NEW h c × (value₁ h c ≡ b)
+
+-- "The highest-priority object with mail gets its front event." The others' mail stays.
+abbrev pub Taken : Type 0
+Taken = (h : Story) (c : Call) → Did NEXT h c → Takes h c (object h c)
+
+-- DRAIN: "steps equal the fall in queued entries, and each log line is NEXT on the state before it"; the event of an unsound row "stays".
+abbrev pub Drained : Type 0
+Drained = (h : Story) (c : Call) → Did DRAIN h c → Drains h c (value₁ h c)
+
+-- ## Demand 3, "as long as nobody but the kernel writes to the tables"
+-- Each loaded slot has the chart of its last LOAD; its table agrees with it, flat and nested, "over any sequence of signals".
+abbrev pub Tables : Type 0
+Tables =
+    (h : Story) (first : List ℕ) → OnlyKernel tableArea first h → (q : ℕ) → q < slots → isLoaded (kernel h) q ≡ true →
+    Holds (chartIn h q) (take slotSize (drop (slotSize * q) (left tableArea first h)))
+
+-- START answers the nested `start`, NEXT the nested `step` from where its object rests, and so does every step of DRAIN.
+abbrev pub Starts : Type 0
+Starts =
+    (h : Story) (c : Call) (first : List ℕ) → OnlyKernel tableArea first (then h c) → Did START h c → let a = start (chartIn h (argument c 2)) in
+    (reply h c ≡ says (argument c 1) 0 0 0 a) × (restOf (kernel (then h c)) (argument c 1) ≡ a .next)
+
+abbrev pub Nexts : Type 0
+Nexts =
+    (h : Story) (c : Call) (first : List ℕ) → OnlyKernel tableArea first (then h c) → Did NEXT h c →
+    (reply h c ≡ says (object h c) (signalTaken h c) (value₁ h c) (value₂ h c) (nested h c)) × (restOf (kernel (then h c)) (object h c) ≡ nested h c .next)
+
+abbrev pub DrainSteps : Type 0
+DrainSteps =
+    (h : Story) (c : Call) (first : List ℕ) → OnlyKernel tableArea first (then h c) → Did DRAIN h c → (i : ℕ) → i < value₁ h c →
+    let t = steps h c i in let n = nextCall c in
+    logLine i (answerIn h c .areas .log) ≡ says (object t n) (signalTaken t n) (value₁ t n) (value₂ t n) (nested t n)
+
+-- Nothing else changes where an object rests, whoever writes to the tables.
+abbrev pub Rests : Type 0
+Rests =
+    (h : Story) (c : Call) (p : ℕ) → 1 ≤ p → (restOf (kernel (then h c)) p ≡ restOf (kernel h) p → ⊥) →
+    (Did START h c × (argument c 1 ≡ p)) ⊎ ((Did NEXT h c × (object h c ≡ p)) ⊎ Did DRAIN h c)
+
+-- A started object stays so, on the chart that its slot had.
+abbrev pub Seated : Type 0
+Seated =
+    (h : Story) (c : Call) (p : ℕ) → 1 ≤ p → started (kernel h) p ≡ true → let s = kernel (then h c) in
+    (started s p ≡ true) × (slotOf s p ≡ slotOf (kernel h) p) × (chartIn (then h c) (slotOf s p) ≡ chartIn h (slotOf s p))
+
+-- No row is unsound where only the kernel writes to the tables: TABLE is answered, and DRAIN stops at a row, only where others wrote to them.
+abbrev pub TableNever : Type 0
+TableNever = (h : Story) (c : Call) (first : List ℕ) → OnlyKernel tableArea first (then h c) → (number h c ≡ TABLE → ⊥) × (Did DRAIN h c → value₂ h c ≡ 2 → ⊥)
+
+-- "No accepted chart is turned away."
+abbrev pub Loads : Type 0
+Loads =
+    (h : Story) (c : Call) (q : ℕ) → c .command ≡ LOAD ∷ q ∷ replicate 70 0 → classOf (c .chart) ≡ 0 → length (c .areas .tables) ≡ tableBytes →
+    q < slots → isOpen (kernel h .hand) ≡ false → slotUsed (kernel h) q objects ≡ false →
+    (number h c ≡ DONE) × (value₁ h c ≡ states (c .chart)) × (isLoaded (kernel (then h c)) q ≡ true)
+
+-- ## Payloads: as long as nobody but the kernel writes to them, a live block has what its NEW gave, then zeros, and READ hands it back.
+abbrev pub Payloads : Type 0
+Payloads =
+    (h : Story) (first : List ℕ) → OnlyKernel payloadArea first h → (b : ℕ) → b < blocks → isLive (cell h b) ≡ true →
+    (sizeIn (kernel h) b ≡ length (givenTo h b)) × (take (capacity b) (drop (placeOf b) (left payloadArea first h)) ≡ padded (capacity b) (givenTo h b))
+
+abbrev pub Reads : Type 0
+Reads =
+    (h : Story) (c : Call) (first : List ℕ) → OnlyKernel payloadArea first (then h c) → Did READ h c →
+    partOf (kernel h) (c .command) (c .areas .payloads) ≡ givenTo h (argument c 1)

@@ -1,0 +1,215 @@
+-- Document 01's table of refusals, one line a refusal, and where a command has its arguments. Written from the table: no command's own
+-- tests, nor their order, are named here.
+use mathlib.Core.Bool.{Bool, true, false, cond, not, _&&_, _||_}
+use mathlib.Core.List.{List, [], _∷_}
+use Prim.Native.Nat.{ℕ, zero, suc, _+_, _*_}
+use lib.Dec.{eqb, ltb, leb}
+use lib.ListN.{length, getD}
+use Rattle.ground.specs.Bytes.{blank}
+use Rattle.ground.specs.Range.{every}
+use Rattle.chart.specs.Chart.{classOf}
+use Rattle.chart.specs.Flat.{sound}
+use Rattle.mail.specs.Box.{queued}
+use Rattle.pool.specs.Cell.{isFree, isNew}
+use Rattle.pool.specs.Row.{at, poolFor, staleAt}
+use Rattle.machine.specs.Charts.{startRow}
+use Rattle.machine.specs.Numbers.{objects, payloadBytes, tableBytes, logBytes, recordBytes, mostHolds, outside}
+use Rattle.machine.specs.Reply.{FORM, AREA, RANGE, BUSY, NOSTEP, IDLE, STALE, ABSENT, TAKEN, FULL, DRY, HOLDS, INUSE, CHART, TABLE, Areas}
+use Rattle.machine.specs.State.{State, signalIn, holdsOn, slotOf, started, room, isLoaded, subscribed, armed, isOpen}
+use Rattle.machine.specs.Steps.{nextRow}
+
+-- The commands by name.
+abbrev pub LOAD : ℕ
+LOAD = 1
+
+abbrev pub START : ℕ
+START = 2
+
+abbrev pub NEW : ℕ
+NEW = 3
+
+abbrev pub POST : ℕ
+POST = 4
+
+abbrev pub POSTFRONT : ℕ
+POSTFRONT = 5
+
+abbrev pub PUBLISH : ℕ
+PUBLISH = 6
+
+abbrev pub SUBSCRIBE : ℕ
+SUBSCRIBE = 7
+
+abbrev pub UNSUBSCRIBE : ℕ
+UNSUBSCRIBE = 8
+
+abbrev pub HOLD : ℕ
+HOLD = 9
+
+abbrev pub RELEASE : ℕ
+RELEASE = 10
+
+abbrev pub DROP : ℕ
+DROP = 11
+
+abbrev pub NEXT : ℕ
+NEXT = 12
+
+abbrev pub END : ℕ
+END = 13
+
+abbrev pub ARM : ℕ
+ARM = 14
+
+abbrev pub DISARM : ℕ
+DISARM = 15
+
+abbrev pub TICK : ℕ
+TICK = 16
+
+abbrev pub READ : ℕ
+READ = 17
+
+abbrev pub DRAIN : ℕ
+DRAIN = 18
+
+-- What an argument byte is, and the numbers that it may be: n is not one of them.
+pub data Argument : Type 0 where
+  slot : Argument
+  object : Argument
+  depth : Argument
+  signal : Argument
+  size : Argument
+  block : Argument
+  margin : Argument
+  timer : Argument
+  any : Argument
+
+unfoldable pub isOutside : Argument → ℕ → Bool
+isOutside slot n = outside 0 3 n
+isOutside object n = outside 1 16 n
+isOutside depth n = outside 1 16 n
+isOutside signal n = outside 4 31 n
+isOutside size n = outside 0 64 n
+isOutside block n = outside 0 55 n
+isOutside margin n = outside 0 15 n
+isOutside timer n = outside 0 15 n
+isOutside any n = false
+
+-- The arguments of command n, in order, from byte 1 of the record on. Any: a generation, the bytes of ticks and interval, a budget.
+unfoldable pub line : {A : Type 0} → List (ℕ × A) → A → ℕ → A
+line [] a n = a
+line (x ∷ l) a n = cond (eqb (x .0) n) (x .1) (line l a n)
+
+unfoldable pub arguments : ℕ → List Argument
+arguments =
+    line (
+    (LOAD, slot ∷ [])
+    ∷ (START, object ∷ slot ∷ depth ∷ [])
+    ∷ (NEW, signal ∷ size ∷ [])
+    ∷ (POST, block ∷ any ∷ object ∷ margin ∷ [])
+    ∷ (POSTFRONT, block ∷ any ∷ object ∷ [])
+    ∷ (PUBLISH, block ∷ any ∷ [])
+    ∷ (SUBSCRIBE, object ∷ signal ∷ [])
+    ∷ (UNSUBSCRIBE, object ∷ signal ∷ [])
+    ∷ (HOLD, block ∷ any ∷ [])
+    ∷ (RELEASE, block ∷ any ∷ [])
+    ∷ (DROP, block ∷ any ∷ [])
+    ∷ (ARM, timer ∷ object ∷ signal ∷ any ∷ any ∷ any ∷ any ∷ [])
+    ∷ (DISARM, timer ∷ [])
+    ∷ (READ, block ∷ any ∷ [])
+    ∷ (DRAIN, any ∷ [])
+    ∷ []) []
+
+-- Of the arguments l of a record r, from byte k on: one is outside its numbers; and the byte that is the object, 0 where none is.
+unfoldable pub someOutside : List ℕ → ℕ → List Argument → Bool
+someOutside r k [] = false
+someOutside r k (a ∷ l) = isOutside a (getD r k 0) || someOutside r (k + 1) l
+
+unfoldable pub isObject : Argument → Bool
+isObject slot = false
+isObject object = true
+isObject depth = false
+isObject signal = false
+isObject size = false
+isObject block = false
+isObject margin = false
+isObject timer = false
+isObject any = false
+
+unfoldable pub objectIn : List ℕ → ℕ → List Argument → ℕ
+objectIn r k [] = 0
+objectIn r k (a ∷ l) = cond (isObject a) (getD r k 0) (objectIn r (k + 1) l)
+
+-- n is one of the commands, one of the first n objects passes a test.
+unfoldable pub oneOf : List ℕ → ℕ → Bool
+oneOf [] n = false
+oneOf (x ∷ l) n = eqb x n || oneOf l n
+
+unfoldable pub someObject : (ℕ → Bool) → ℕ → Bool
+someObject ok zero = false
+someObject ok (suc n) = ok (suc n) || someObject ok n
+
+-- The pool for n bytes has no free block.
+unfoldable pub dry : State → ℕ → Bool
+dry s n = every (λ b. not (isFree (at (s .cells) b))) (poolFor n .from) (poolFor n .to)
+
+-- Of one call: the command n, the state s, the record r, the chart d, the areas z.
+module _ (n : ℕ) (s : State) (r d : List ℕ) (z : Areas) where
+  abbrev byte : ℕ → ℕ
+  byte k = getD r k 0
+
+  abbrev is : List ℕ → Bool
+  is names = oneOf names n
+
+  -- the object that a command names, and whether it has a handle, which is then in bytes 1 and 2
+  abbrev p : ℕ
+  p = objectIn r 1 (arguments n)
+
+  abbrev hasHandle : Bool
+  hasHandle = is (POST ∷ POSTFRONT ∷ PUBLISH ∷ HOLD ∷ RELEASE ∷ DROP ∷ READ ∷ [])
+
+  -- an unused byte is not 0: one past the arguments; in NEW also a payload byte past the size, none if the size is above 64
+  unfoldable pub unusedByte : Bool
+  unusedByte =
+      cond (is (NEW ∷ []))
+      (not (blank r 3 8) || not (ltb 64 (byte 2)) && not (blank r (8 + byte 2) recordBytes))
+      (not (blank r (1 + length (arguments n)) recordBytes))
+
+  -- an area that the command uses is not of its length
+  unfoldable pub otherLength : Bool
+  otherLength =
+      is (NEW ∷ READ ∷ []) && not (eqb (length (z .payloads)) payloadBytes)
+      || (is (LOAD ∷ START ∷ NEXT ∷ DRAIN ∷ []) && not (eqb (length (z .tables)) tableBytes)
+      || is (DRAIN ∷ []) && not (eqb (length (z .log)) logBytes))
+
+  -- an object uses the slot; a subscriber to the event's signal has no place
+  unfoldable pub slotInUse : Bool
+  slotInUse = someObject (λ x. started s x && eqb (slotOf s x) (byte 1)) objects
+
+  unfoldable pub fullSubscriber : Bool
+  fullSubscriber = someObject (λ x. subscribed s x (signalIn s (byte 1)) && eqb (room s x) 0) objects
+
+  -- The table: number and "exactly when".
+  unfoldable pub tableOf : List (ℕ × Bool)
+  tableOf =
+      (FORM, not (eqb (length r) recordBytes) || (outside LOAD DRAIN n || unusedByte))
+      ∷ (AREA, otherLength)
+      ∷ (RANGE, someOutside r 1 (arguments n) || is (ARM ∷ []) && eqb (byte 4 + 256 * byte 5) 0)
+      ∷ (BUSY, is (LOAD ∷ START ∷ NEXT ∷ DRAIN ∷ []) && isOpen (s .hand))
+      ∷ (NOSTEP, is (END ∷ []) && not (isOpen (s .hand)))
+      ∷ (IDLE, is (NEXT ∷ []) && eqb (queued (s .boxes)) 0)
+      ∷ (STALE, hasHandle && staleAt (s .cells) (byte 1) (byte 2))
+      ∷ (ABSENT, is (POST ∷ POSTFRONT ∷ SUBSCRIBE ∷ UNSUBSCRIBE ∷ ARM ∷ []) && not (started s p) || is (START ∷ []) && not (isLoaded s (byte 2)))
+      ∷ (TAKEN, is (START ∷ []) && started s p || (is (LOAD ∷ []) && slotInUse || is (ARM ∷ []) && armed s (byte 1)))
+      ∷ (FULL, is (POST ∷ []) && leb (room s p) (byte 4) || (is (POSTFRONT ∷ []) && eqb (room s p) 0 || is (PUBLISH ∷ []) && fullSubscriber))
+      ∷ (DRY, is (NEW ∷ []) && dry s (byte 2))
+      ∷ (HOLDS, is (HOLD ∷ []) && eqb (holdsOn s (byte 1)) mostHolds || is (RELEASE ∷ []) && eqb (holdsOn s (byte 1)) 0)
+      ∷ (INUSE, is (DROP ∷ []) && not (isNew (at (s .cells) (byte 1))))
+      ∷ (CHART, is (LOAD ∷ []) && not (eqb (classOf d) 0))
+      ∷ (TABLE, is (START ∷ []) && not (sound (startRow (z .tables) (byte 2))) || is (NEXT ∷ []) && not (sound (nextRow s (z .tables))))
+      ∷ []
+
+-- The line with the number k applies.
+unfoldable pub applies : State → List ℕ → List ℕ → Areas → ℕ → Bool
+applies s r d z k = line (tableOf (getD r 0 0) s r d z) false k

@@ -1,0 +1,153 @@
+-- The words of the statements: what a call is and is answered, charts and payloads as they were given, what a block counts, DRAIN's steps.
+use mathlib.Core.Bool.{Bool, cond, _&&_}
+use mathlib.Core.List.{List, [], _∷_}
+use mathlib.Core.Logic.{_⊎_}
+use mathlib.Core.Path.{_≡_, refl}
+use Prim.Native.Nat.{ℕ, zero, suc, _+_, _*_, _-_, _≤_, _<_}
+use lib.Dec.{eqb, ltb}
+use lib.ListN.{length, getD, take, drop, replicate}
+use Rattle.chart.specs.Chart.{classOf}
+use Rattle.chart.specs.Flat.{Agrees, slotBytes}
+use Rattle.chart.specs.Step
+use Rattle.chart.specs.Step.{step}
+use Rattle.mail.specs.Box.{front, queued, rest}
+use Rattle.mail.specs.Entry.{handOf}
+use Rattle.pool.specs.Cell.{Cell, free, live, absent}
+use Rattle.pool.specs.Row.{at}
+use Rattle.machine.specs.Events.{receivers}
+use Rattle.machine.specs.Inv.{references}
+use Rattle.machine.specs.Machine.{payload, partOf}
+use Rattle.machine.specs.Numbers.{objects, replyBytes}
+use Rattle.machine.specs.Reply.{DONE, CHART, TABLE, bytes}
+use Rattle.machine.specs.State.{signalIn, boxOf, restOf, slotOf}
+use Rattle.machine.specs.Steps.{signalOf, handle₁, handle₂}
+use Rattle.story.specs.Calls.{areBytes, Call, Story, fresh, then, kernel, answerIn}
+use Rattle.story.specs.Table.{LOAD, NEW, PUBLISH, DROP, NEXT, END, applies}
+
+-- A call's number and arguments; of its reply, the bytes by name; that it was command n and was done.
+abbrev pub commandOf : Call → ℕ
+commandOf c = getD (c .command) 0 0
+
+abbrev pub argument : Call → ℕ → ℕ
+argument c k = getD (c .command) k 0
+
+abbrev pub reply : Story → Call → List ℕ
+reply h c = answerIn h c .reply
+
+abbrev pub number : Story → Call → ℕ
+number h c = getD (reply h c) 0 0
+
+abbrev pub object : Story → Call → ℕ
+object h c = getD (reply h c) 1 0
+
+abbrev pub value₁ : Story → Call → ℕ
+value₁ h c = getD (reply h c) 4 0
+
+abbrev pub value₂ : Story → Call → ℕ
+value₂ h c = getD (reply h c) 5 0
+
+abbrev pub Did : ℕ → Story → Call → Type 0
+Did n h c = (commandOf c ≡ n) × (number h c ≡ DONE)
+
+unfoldable pub does : ℕ → Story → Call → Bool
+does n h c = eqb (commandOf c) n && eqb (number h c) DONE
+
+-- The line of the table that applies to a call and has no lower one.
+abbrev pub appliesTo : Story → Call → ℕ → Bool
+appliesTo h c n = applies (kernel h) (c .command) (c .chart) (c .areas) n
+
+-- The chart of the last LOAD of slot q that was done; the payload that the last NEW gave which handed out block b.
+unfoldable pub chartIn : Story → ℕ → List ℕ
+chartIn fresh q = []
+chartIn (then h c) q = cond (does LOAD h c && eqb (argument c 1) q) (c .chart) (chartIn h q)
+
+unfoldable pub givenTo : Story → ℕ → List ℕ
+givenTo fresh b = []
+givenTo (then h c) b = cond (does NEW h c && eqb (value₁ h c) b) (take (argument c 2) (payload (c .command))) (givenTo h b)
+
+-- Block b after a story, and what refers to it.
+abbrev pub cell : Story → ℕ → Cell
+cell h b = at (kernel h .cells) b
+
+abbrev pub refer : Story → ℕ → ℕ
+refer h b = references (kernel h) b
+
+-- A block to which n things refer: free if it is so, and then n is 0; else new if n is 0, and counted from 1 on.
+unfoldable pub Counts : Cell → ℕ → Type 0
+Counts (free g) n = n ≡ 0
+Counts (live g m) n = m ≡ n
+Counts absent n = ⊥
+
+-- Its last reference goes in the call. It is new, and is dropped or published to nobody.
+pub record LastGoes (h : Story) (c : Call) (b : ℕ) : Type 0 where
+  pub had : 0 < refer h b
+  pub gone : refer (then h c) b ≡ 0
+
+pub record NewGoes (h : Story) (c : Call) (b : ℕ) : Type 0 where
+  pub new : refer h b ≡ 0
+  pub this : argument c 1 ≡ b
+  pub how : Did DROP h c ⊎ (Did PUBLISH h c × (receivers (kernel h) (signalIn (kernel h) b) objects ≡ 0))
+
+-- With the areas of c: a NEXT, an END, and k times NEXT and END after h.
+unfoldable pub nextCall : Call → Call
+unfolding areBytes Rattle.ground.specs.Range.everyFrom
+nextCall c = record { command = NEXT ∷ replicate 71 0; bytes = refl; chart = []; areas = c .areas }
+
+unfoldable pub endCall : Call → Call
+unfolding areBytes Rattle.ground.specs.Range.everyFrom
+endCall c = record { command = END ∷ replicate 71 0; bytes = refl; chart = []; areas = c .areas }
+
+unfoldable pub steps : Story → Call → ℕ → Story
+steps h c zero = h
+steps h c (suc k) = then (then (steps h c k) (nextCall c)) (endCall c)
+
+-- Line i of a log.
+abbrev pub logLine : ℕ → List ℕ → List ℕ
+logLine i log = take replyBytes (drop (replyBytes * i) log)
+
+-- START and NEXT answer for the object p and the signal g, with two values, what a chart answers.
+abbrev pub says : ℕ → ℕ → ℕ → ℕ → Step.Answer → List ℕ
+says p g v w a = bytes DONE p (a .outcome) g (length (a .acts)) v w (a .acts)
+
+-- What a call that is a NEXT steps by: the signal of the event that it takes, and the nested step from its object's rest.
+abbrev pub signalTaken : Story → Call → ℕ
+signalTaken h c = signalOf (kernel h) (kernel (then h c) .hand)
+
+abbrev pub nested : Story → Call → Step.Answer
+nested h c = step (chartIn h (slotOf (kernel h) (object h c))) (restOf (kernel h) (object h c)) (signalTaken h c)
+
+-- A call changes nothing: the kernel and the areas that it was lent are as they were, no part is handed back, and all of the reply is its
+-- number, zeros, and the class of a refused chart.
+pub record Unchanged (h : Story) (c : Call) : Type 0 where
+  pub state : kernel (then h c) ≡ kernel h
+  pub areas : answerIn h c .areas ≡ c .areas
+  pub part : partOf (kernel h) (c .command) (c .areas .payloads) ≡ []
+  pub says : reply h c ≡ number h c ∷ 0 ∷ 0 ∷ 0 ∷ cond (eqb (number h c) CHART) (classOf (c .chart)) 0 ∷ replicate 19 0
+
+-- A call takes the front event of the object p, the highest with mail; the others' mail stays.
+pub record Takes (h : Story) (c : Call) (p : ℕ) : Type 0 where
+  pub low : 1 ≤ p
+  pub high : p ≤ objects
+  pub mail : 0 < length (boxOf (kernel h) p)
+  pub highest : (q : ℕ) → p < q → q ≤ objects → boxOf (kernel h) q ≡ []
+  pub in-hand : kernel (then h c) .hand ≡ handOf (front (kernel h .boxes) (p - 1))
+  pub left : boxOf (kernel (then h c)) p ≡ rest (boxOf (kernel h) p)
+  pub others : (q : ℕ) → 1 ≤ q → (q ≡ p → ⊥) → boxOf (kernel (then h c)) q ≡ boxOf (kernel h) q
+  pub handle : (value₁ h c ≡ handle₁ (kernel (then h c) .hand)) × (value₂ h c ≡ handle₂ (kernel h) (kernel (then h c) .hand))
+
+-- A call does n times NEXT and END: its steps are the fall in queued entries, its log has a line for each, and how it stops is its value.
+pub record Drains (h : Story) (c : Call) (n : ℕ) : Type 0 where
+  pub fall : queued (kernel (then h c) .boxes) + n ≡ queued (kernel h .boxes)
+  pub state : kernel (then h c) ≡ kernel (steps h c n)
+  pub done : (i : ℕ) → i < n → number (steps h c i) (nextCall c) ≡ DONE
+  pub lines : (i : ℕ) → i < n → logLine i (answerIn h c .areas .log) ≡ reply (steps h c i) (nextCall c)
+  pub rest : drop (replyBytes * n) (answerIn h c .areas .log) ≡ drop (replyBytes * n) (c .areas .log)
+  pub within : n ≤ argument c 1
+  pub ends : value₂ h c ≡ cond (eqb (queued (kernel (then h c) .boxes)) 0) 1 (cond (ltb n (argument c 1)) 2 0)
+  pub stopped : 0 < queued (kernel (then h c) .boxes) → n < argument c 1 → number (then h c) (nextCall c) ≡ TABLE
+
+-- A slot of the tables, t, holds the chart d: accepted, its table, and flat and nested agree over any sequence of signals.
+pub record Holds (d t : List ℕ) : Type 0 where
+  pub accepted : classOf d ≡ 0
+  pub table : t ≡ slotBytes d
+  pub agrees : Agrees d t

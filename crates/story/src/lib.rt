@@ -1,0 +1,1 @@
+// Any sequence of calls from a fresh start: definitions and theorems, no code.
