@@ -48,3 +48,6 @@ refused {r} e t = sym e ∙ not-true r t
 
 pub passed : {r b : Bool} → r ≡ b → not r ≡ false → b ≡ true
 passed {r} e t = sym e ∙ not-false r t
+
+pub cond-all : {A : Type 0} (P : A → Type 0) (t : Bool) {x y : A} → P x → P y → P (cond t x y)
+cond-all P t {x} {y} p q = cond-pick P t x y (λ e. p) (λ e. q)

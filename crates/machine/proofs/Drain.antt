@@ -7,7 +7,7 @@ use native.Mathlib.Decide.{decLt}
 use native.Mathlib.Omega.{arith}
 use borrow.Author.Tests.{eqb-true}
 use lib.Dec.{eqb}
-use lib.ListN.{length, getD}
+use lib.ListN.{length, getD, List·getD-eq-default}
 use lib.Seq.{set-out}
 use Rattle.ground.specs.Bools.{cond-pick, no-yes}
 use Rattle.ground.specs.Lists.{set-all}
@@ -17,7 +17,7 @@ use Rattle.mail.specs.Box.{tookFront, queued}
 use Rattle.mail.specs.Laws.{queued-took}
 use Rattle.mail.specs.declared.Hand.{Hand}
 use Rattle.mail.specs.declared.Hand.the-variants.{Nothing, Block, Timer}
-use Rattle.pool.specs.Cell.{Cell, free, live, absent, generationOf, fewer}
+use Rattle.pool.specs.Cell.{Cell, free, live, absent, atLast, generationOf, fewer}
 use Rattle.pool.specs.Laws.{gone-append}
 use Rattle.pool.specs.Row.{at, blocks, changed, generationAt, goneAll}
 use Rattle.machine.proofs.Counts.{fewer-none}
@@ -26,7 +26,7 @@ use Rattle.machine.proofs.Run.{Run, blockOf, begun, afterRun, seen, Fit
 use Rattle.machine.specs.Inv.{Inv, isLive, IsEvent}
 use Rattle.machine.specs.Reply.{lowest}
 use Rattle.machine.specs.State.{State, withCells}
-use Rattle.machine.specs.Steps.{toRun, coming, signalOf, handle₂, nextRow, stepTests, stepped, nextSays, letGoHand, ended, Drained, logged, drainFrom}
+use Rattle.machine.specs.Steps.{toRun, coming, signalOf, handle₂, nextRow, stepTests, stepped, nextSays, letGoHand, frees, ended, Drained, logged, drainFrom}
 
 -- Each step takes one entry.
 let-go-boxes : (h : Hand) (s : State) → letGoHand h s .boxes ≡ s .boxes
@@ -78,11 +78,17 @@ gone-lives before now [] h = h
 gone-lives before now (b ∷ l) h = gone-lives before (changed fewer now b) l (fewer-lives before now b h)
 
 -- letting go of what is in hand, where 255 is no block
-let-go-is : (h : Hand) (s : State) → length (s .cells) ≤ 255 → letGoHand h s ≡ withCells (goneAll (s .cells) (blockOf h ∷ [])) s
+pub let-go-is : (h : Hand) (s : State) → length (s .cells) ≤ 255 → letGoHand h s ≡ withCells (goneAll (s .cells) (blockOf h ∷ [])) s
 unfolding letGoHand goneAll blockOf
 let-go-is Nothing s l = rw (set-out (s .cells) 255 (fewer (at (s .cells) 255)) l) refl
 let-go-is (Block b) s l = refl
 let-go-is (Timer t g) s l = rw (set-out (s .cells) 255 (fewer (at (s .cells) 255)) l) refl
+
+pub frees-is : (h : Hand) (s : State) → length (s .cells) ≤ 255 → frees h s ≡ atLast (at (s .cells) (blockOf h))
+unfolding frees atLast blockOf
+frees-is Nothing s l = rw (List·getD-eq-default (s .cells) absent l) refl
+frees-is (Block b) s l = refl
+frees-is (Timer t g) s l = rw (List·getD-eq-default (s .cells) absent l) refl
 
 -- The run of a state s: what a step of it reads, the step, and at most k steps.
 abbrev pub gensOf : State → List ℕ

@@ -9,7 +9,7 @@ use borrow.Author.Tests.{lt-ltb, le-ltb, ltb-true}
 use lib.Dec.{leb, ltb}
 use lib.ListN.{length, getD, set, drop, length-set, drop-of-length-le}
 use lib.Seq.{getD-set-same, getD-set-other, drop-cons}
-use Rattle.ground.specs.Bools.{cond-pick}
+use Rattle.ground.specs.Bools.{cond-all}
 use Rattle.ground.specs.Range.{firstFrom}
 use Rattle.ground.specs.Search.{First, first-is, first-only}
 use Rattle.pool.specs.Cell.{Cell, absent, isFree, fewer}
@@ -71,9 +71,7 @@ module _ (s : List Cell) (pool : Span) where
 -- every pool ends among the blocks
 pub pool-end : (size : ℕ) → poolFor size .to ≤ blocks
 unfolding poolFor
-pool-end size =
-    cond-pick ends (leb size 16) _ _ (λ e. omega arith)
-    (λ e. cond-pick ends (leb size 32) _ _ (λ f. omega arith) (λ f. cond-pick ends (leb size 64) _ _ (λ g. omega arith) (λ g. omega arith)))
+pool-end size = cond-all ends (leb size 16) (omega arith) (cond-all ends (leb size 32) (omega arith) (cond-all ends (leb size 64) (omega arith) (omega arith)))
   where
     ends : Span → Type 0
     ends pool = pool .to ≤ blocks

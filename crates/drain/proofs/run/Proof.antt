@@ -42,8 +42,10 @@ returns : tie.Need-returns Inv-loop μ-loop
 returns c =
     let a = c .before .before .before .before .before .before .before .before .before .before .before .before .before .args in
     let l = c .before .before .before .before .before .before .before .before .before .before .loop in
-    let t = c .before .before .before .drain-step .ensures .0 .stops (not-true _ (c .if1 .taken)) in
-    t .1 ∙ sym (run-stop (a .gens .now) (a .signals .now) (a .seats .now) (a .tables .now) _ (a .budget - l .n) (t .0)) ∙ l .inv .3
+    let t = c .before .before .before .drain-step .ensures .0 .stops (not-true _ (c .if1 .taken)) in (
+      c .before .before .before .drain-step .ensures .1,
+      t .1 ∙ sym (run-stop (a .gens .now) (a .signals .now) (a .seats .now) (a .tables .now) _ (a .budget - l .n) (t .0)) ∙ l .inv .3,
+    )
 
 loop-again : tie.Need-loop-again Inv-loop μ-loop
 loop-again c =
@@ -62,7 +64,7 @@ returns-2 : tie.Need-returns-2 Inv-loop μ-loop
 returns-2 c =
     let a = c .before .before .before .before .args in
     let l = c .before .loop in
-    sym (run-end (a .gens .now) (a .signals .now) (a .seats .now) (a .tables .now) _ (l .n) (a .budget) (c .loop-test .left)) ∙ l .inv .3
+    (l .inv .1, sym (run-end (a .gens .now) (a .signals .now) (a .seats .now) (a .tables .now) _ (l .n) (a .budget) (c .loop-test .left)) ∙ l .inv .3)
 
 same-length : tie.Need-same-length Inv-loop μ-loop
 same-length c =
