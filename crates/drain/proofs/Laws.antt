@@ -1,5 +1,5 @@
 -- What a step finds, and what it makes of the arrays.
-use mathlib.Core.Bool.{Bool, true, false}
+use mathlib.Core.Bool.{true, false}
 use mathlib.Core.List.{List, [], _∷_, _++_}
 use mathlib.Core.Path.{_≡_, refl, sym, ap, _∙_}
 use Prim.Native.Nat.{ℕ, _+_, _*_, _-_, _<_, _≤_}
@@ -10,18 +10,17 @@ use borrow.Rule.Slice.PartMut.{putMid, midOf}
 use lib.Dec.{eqb}
 use lib.ListN.{length, getD, set, take, drop, length-drop}
 use lib.Seq.{length-take-le, take-suc-set}
-use Rattle.chart.specs.Flat.{rowAt, sound}
+use Rattle.chart.specs.Flat.{sound}
 use Rattle.chart.specs.Numbers.{rowSize}
 use Rattle.ground.specs.Bytes.{padded}
 use Rattle.ground.specs.Padding.{padded-whole}
 use Rattle.ground.specs.Parts.{part-over}
 use Rattle.ground.specs.Tab.{getD-tab}
 use Rattle.machine.proofs.KeepsCharts.{sound-row}
-use Rattle.machine.proofs.KeepsSteps.{Ready, ready}
-use Rattle.machine.proofs.Run.{Run, Fit, blockOf, mayStep, onward, seen}
 use Rattle.machine.specs.Inv.{IsEvent}
 use Rattle.machine.specs.Numbers.{tableBytes, logBytes, replyBytes}
 use Rattle.machine.specs.Reply.{IDLE, TABLE, lowest, over}
+use Rattle.machine.specs.Run.{Run, Fit, blockOf, onward, seen}
 use Rattle.machine.specs.State.{State, restOf, slotOf}
 use Rattle.machine.specs.Steps.{toRun, coming, signalOf, nextRow, nextSays, stepTests, logged}
 use Rattle.mail.specs.Box.{front, highest}
@@ -54,9 +53,6 @@ module _ (s : State) (tables : List ℕ) (p : ℕ) (e : p ≡ toRun s) where
     some-queued : eqb (toRun s) 0 ≡ false
     some-queued = ne-eqb (toRun s) 0 (λ z. ne (e ∙ z))
 
-    pub at-work : Ready s
-    at-work = ready s some-queued
-
     pub row-unsound : sound (nextRow s tables) ≡ false → lowest (stepTests s tables) ≡ TABLE
     unfolding stepTests lowest
     row-unsound f = rw (some-queued, f) refl
@@ -85,11 +81,11 @@ module _ (s : State) (tables : List ℕ) (p : ℕ) (e : p ≡ toRun s) where
 
     pub row-end : Fit s → l .at + rowSize ≤ tableBytes
     unfolding coming
-    row-end f = rw (w .at, e) (f .row .end)
+    row-end f = rw (w .at, e) (f .end)
 
     pub runs : Fit s → p ≤ 16 → (row : List ℕ) → sound row ≡ true → Runs p l row
     runs f h row t =
-        let g : l .signal < 32 = rw signal-is (omega (arith, f .row .signal .high)) in
+        let g : l .signal < 32 = rw signal-is (omega (arith, f .signal .high)) in
         let o = sound-row row t in
         record { object = omega arith; event = rw hand-is (f .event); signal = g; long = o .0; outcome = o .1 }
 

@@ -6,10 +6,10 @@ use Prim.Native.Nat.{ℕ, _+_, _*_, _-_, _<_, _≤_}
 use lib.ListN.{length, getD, set, take}
 use Rattle.chart.specs.Flat.{place}
 use Rattle.chart.specs.Numbers.{slotSize, rowSize}
-use Rattle.machine.proofs.Run.{Run, mayStep, onward, blockOf, seen}
 use Rattle.machine.specs.Inv.{IsEvent}
-use Rattle.machine.specs.Numbers.{tableBytes, logBytes, replyBytes}
+use Rattle.machine.specs.Numbers.{logBytes, replyBytes}
 use Rattle.machine.specs.Reply.{over, replyOf, ran}
+use Rattle.machine.specs.Run.{Run, mayStep, onward, blockOf}
 use Rattle.machine.specs.State.{State}
 use Rattle.machine.specs.Steps.{signalOf, handle₁, handle₂}
 use Rattle.mail.specs.Box.{tookFront}

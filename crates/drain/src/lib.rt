@@ -1,13 +1,12 @@
 // Steps: what NEXT reads of the event that comes, and DRAIN's steps over arrays that the kernel lends. The steps leave the blocks alone:
 // they note which are let go, and the kernel then lets go of all of them.
-ghost use mathlib.Core.List.{List};
 ghost use mathlib.Core.Path.{_≡_};
-ghost use Prim.Native.Nat.{ℕ, _+_, _-_, _<_, _≤_};
+ghost use Prim.Native.Nat.{_+_, _-_, _<_, _≤_};
 ghost use lib.ListN.{getD, length};
-ghost use Rattle.machine.proofs.Run.{FitFor, FitRun, blockOf, runFrom, seen};
 ghost use Rattle.machine.specs.Inv.{IsEvent};
 ghost use Rattle.machine.specs.Numbers.{tableBytes};
 ghost use Rattle.machine.specs.Reply.{replyOf, ran};
+ghost use Rattle.machine.specs.Run.{FitFor, FitRun, blockOf, runFrom, seen};
 ghost use Rattle.machine.specs.State.{State};
 ghost use Rattle.machine.specs.Steps.{signalOf, handle₁, handle₂};
 ghost use Rattle.mail.specs.Entry.{handOf};
@@ -49,6 +48,7 @@ fn signal_of(signals: &[u8; 56], h: Hand) -> u8
     }
 }
 
+// NEXT's two values: the handle of an event.
 fn first_value(h: Hand) -> u8
     requires { ⌜ IsEvent h ⌝ }
     ensures { λ r. ⌜ r ≡ handle₁ h ⌝ }
@@ -191,9 +191,8 @@ pub fn run(
 ) -> usize
     requires { ⌜ Sized (now places) (now heads) (now counts) (now gone) (now log) × (length (now tables) ≡ tableBytes) × (budget ≤ 255) ⌝ }
     requires { ⌜ FitRun (now gens) (now signals) (now seats) (now tables) (runAt (now places) (now heads) (now counts) (now rests) (now gone) (now log) 0) ⌝ }
-    ensures { λ _. ⌜ Sized (now (places .entry)) (now (heads .exit)) (now (counts .exit)) (now (gone .exit)) (now (log .exit)) ⌝ }
-    ensures { λ r. ⌜ runAt (now (places .entry)) (now (heads .exit)) (now (counts .exit)) (now (rests .exit)) (now (gone .exit)) (now (log .exit)) r ≡ runFrom (now (gens .entry)) (now (signals .entry))
-        (now (seats .entry)) (now (tables .entry)) budget (runAt (now (places .entry)) (now (heads .entry)) (now (counts .entry)) (now (rests .entry)) (now (gone .entry)) (now (log .entry)) 0) ⌝ }
+    ensures { λ r. ⌜ Sized (now (places .entry)) (now (heads .exit)) (now (counts .exit)) (now (gone .exit)) (now (log .exit)) × (runAt (now (places .entry)) (now (heads .exit)) (now (counts .exit)) (now (rests .exit)) (now (gone .exit)) (now (log .exit)) r
+        ≡ runFrom (now (gens .entry)) (now (signals .entry)) (now (seats .entry)) (now (tables .entry)) budget (runAt (now (places .entry)) (now (heads .entry)) (now (counts .entry)) (now (rests .entry)) (now (gone .entry)) (now (log .entry)) 0)) ⌝ }
 {
     let mut n = 0;
     while n < budget {

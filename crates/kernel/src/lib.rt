@@ -1,140 +1,27 @@
-// The kernel: its state, and the commands.
-mod charts;
-mod clocks;
-mod events;
-mod payloads;
-mod publish;
+// The kernel: one operation for any record, chart and areas.
 mod records;
-mod steps;
-mod subscriptions;
 
 ghost use mathlib.Core.Path.{_≡_};
-ghost use Prim.Native.Nat.{_-_, _<_, _≤_};
-ghost use lib.ListN.{getD, length};
-ghost use Rattle.chart.specs.Flat.{rowAt};
-ghost use Rattle.machine.specs.Machine.{answerTo};
-ghost use Rattle.machine.specs.Reply.{no, replyOf};
+ghost use Rattle.commands.specs.View.{answered, areas, Good, stateOf};
+ghost use Rattle.machine.specs.Machine.{answerTo, partOf};
 ghost use Rattle.machine.specs.State.{freshState};
-ghost use Rattle.machine.specs.State as state;
-ghost use Rattle.mail.specs.Box as box;
-ghost use Rattle.kernel.specs.View.{answered, areas, Good, stateOf};
-use mail::Hand;
-use pool::Pool;
+use commands::Answered;
+use commands::Kernel;
 use reply::refusals::FORM;
-
-const ROW: usize = 24;
-
-pub struct Kernel {
-    pool: Pool,
-    signals: [u8; 56],
-    sizes: [u8; 56],
-    holds: [u8; 56],
-    places: [u16; 256],
-    heads: [u8; 16],
-    counts: [u8; 16],
-    depths: [u8; 16],
-    rests: [u8; 16],
-    seats: [u8; 16],
-    wants: [u8; 512],
-    loaded: [u8; 4],
-    owners: [u8; 16],
-    alarms: [u8; 16],
-    counters: [u16; 16],
-    intervals: [u16; 16],
-    hand: Hand,
-}
-
-pub struct Answered {
-    pub kernel: Kernel,
-    pub reply: [u8; 24],
-}
 
 pub fn fresh() -> Kernel
     ensures { λ r. ⌜ stateOf r ≡ freshState ⌝ }
     ensures { λ r. ⌜ Good r ⌝ }
 {
-    Kernel {
-        pool: pool::fresh(),
-        signals: [0; 56],
-        sizes: [0; 56],
-        holds: [0; 56],
-        places: [0; 256],
-        heads: [0; 16],
-        counts: [0; 16],
-        depths: [0; 16],
-        rests: [0; 16],
-        seats: [0; 16],
-        wants: [0; 512],
-        loaded: [0; 4],
-        owners: [0; 16],
-        alarms: [0; 16],
-        counters: [0; 16],
-        intervals: [0; 16],
-        hand: Hand::Nothing,
-    }
+    commands::fresh()
 }
 
-// A refusal: only the reply is written.
-fn refuse(k: Kernel, n: u8) -> Answered
-    ensures { λ r. ⌜ (r .kernel ≡ k) × (r .reply ≡ replyOf (no n)) ⌝ }
+// The part of the payload area that READ hands back: empty when refused, and for any other record.
+pub fn read_part<'a>(k: Kernel, record: &[u8], payloads: &'a [u8]) -> &'a [u8]
+    requires { ⌜ Good k ⌝ }
+    ensures { λ r. ⌜ now r ≡ partOf (stateOf k) (now («record» .entry)) (now (payloads .entry)) ⌝ }
 {
-    Answered {
-        kernel: k,
-        reply: reply::refused(n),
-    }
-}
-
-// What an array has of object p; 0 where there is no such object.
-fn of_object(a: &[u8; 16], p: usize) -> usize
-    requires { ⌜ length (now a) ≡ 16 ⌝ }
-    ensures { λ r. ⌜ (r ≡ getD (now (a .entry)) (p - 1) 0) × (r < 256) ⌝ }
-{
-    if p == 0 {
-        return ground::wide(a[0]);
-    }
-    if 16 < p {
-        return 0;
-    }
-    ground::wide(a[p - 1])
-}
-
-// The free places of a mailbox.
-fn room_of(depth: usize, count: usize) -> usize
-    ensures { λ r. ⌜ r ≡ depth - count ⌝ }
-{
-    if depth < count { 0 } else { depth - count }
-}
-
-// 1 for true: how a value byte says it.
-fn one(t: bool) -> u8
-    ensures { λ r. ⌜ (r ≡ box.one t) × (r ≤ 1) ⌝ }
-{
-    if t { 1 } else { 0 }
-}
-
-// Whether a step is open: there is an event in hand.
-fn is_open(h: Hand) -> bool
-    ensures { λ r. ⌜ r ≡ state.isOpen h ⌝ }
-{
-    match h {
-        Hand::Nothing => false,
-        Hand::Block(_) => true,
-        Hand::Timer(_, _) => true,
-    }
-}
-
-// The row at a place of the tables, as much of it as there is.
-fn row_at<'a>(tables: &'a [u8], at: usize) -> &'a [u8]
-    ensures { λ r. ⌜ now r ≡ rowAt (now (tables .entry)) at ⌝ }
-{
-    let n = tables.len();
-    if n < at {
-        return &tables[0..0];
-    }
-    if n - at < ROW {
-        return &tables[at..n];
-    }
-    &tables[at..at + ROW]
+    commands::payloads::read_part(k, record, payloads)
 }
 
 // Any record, with the chart that LOAD loads, and the areas.
@@ -153,7 +40,7 @@ pub fn command(
         (areas (now (payloads .entry)) (now (tables .entry)) (now (log .entry))) ⌝ }
 {
     if record.len() != records::BYTES {
-        return refuse(k, FORM);
+        return commands::refuse(k, FORM);
     }
     let n = record[0];
     match n {
@@ -175,6 +62,6 @@ pub fn command(
         records::TICK => records::tick_command(k, record),
         records::READ => records::read_command(k, record, payloads),
         records::DRAIN => records::drain_command(k, record, tables, log),
-        _ => refuse(k, FORM),
+        _ => commands::refuse(k, FORM),
     }
 }

@@ -5,7 +5,7 @@ use mathlib.Core.Path.{_≡_, refl, sym, ap, _∙_, subst}
 use Prim.Native.Nat.{ℕ, zero, suc, _+_, _-_, _≤_, _<_}
 use native.Mathlib.Decide.{decLt}
 use native.Mathlib.Omega.{arith}
-use borrow.Author.Tests.{eqb-true}
+use borrow.Author.Tests.{eqb-true, ne-eqb}
 use lib.Dec.{eqb}
 use lib.ListN.{length, getD, List·getD-eq-default}
 use lib.Seq.{set-out}
@@ -21,10 +21,10 @@ use Rattle.pool.specs.Cell.{Cell, free, live, absent, atLast, generationOf, few
 use Rattle.pool.specs.Laws.{gone-append}
 use Rattle.pool.specs.Row.{at, blocks, changed, generationAt, goneAll}
 use Rattle.machine.proofs.Counts.{fewer-none}
-use Rattle.machine.proofs.KeepsSteps.{Ready, step-ready, coming-event, coming-live, RowWithin, row-within, step-keeps}
-use Rattle.machine.proofs.Run.{Run, blockOf, begun, afterRun, seen, Fit, FitFor, onward, runFrom}
+use Rattle.machine.proofs.KeepsSteps.{Ready, ready, step-ready, coming-event, coming-live, row-within, step-keeps}
 use Rattle.machine.specs.Inv.{Inv, isLive, IsEvent}
 use Rattle.machine.specs.Reply.{lowest}
+use Rattle.machine.specs.Run.{Run, blockOf, begun, afterRun, seen, FitFor, onward, runFrom}
 use Rattle.machine.specs.State.{State, withCells}
 use Rattle.machine.specs.Steps.{toRun, coming, signalOf, handle₂, nextRow, stepTests, stepped, nextSays, letGoHand, frees, ended, Drained, logged, drainFrom}
 
@@ -177,19 +177,11 @@ module _ (s : State) (tables : List ℕ) (e : s .hand ≡ Nothing) where
   -- every state that it comes to is fit for a step
   fit : (x : Run) → Inv (afterRun s x) → FitFor (seenOf s x)
   unfolding coming
-  fit x i r =
-      let q : Ready (afterRun s x) = record { low = r .low; high = r .high; mail = r .mail } in
-      let w = row-within (afterRun s x) i q in
-      record {
-        event = coming-event (afterRun s x) i q;
-        row = record {
-          slot = w .slot;
-          rest-low = w .rest-low;
-          rest-high = w .rest-high;
-          signal = rw (← same-signal s tables x (coming (seenOf s x))) (w .signal);
-          end = rw (← same-signal s tables x (coming (seenOf s x))) (w .end);
-        };
-      }
+  fit x i l =
+      let r = ready (afterRun s x) (ne-eqb (toRun (afterRun s x)) 0 (λ z. omega arith)) in
+      let w = row-within (afterRun s x) i r in
+      let g = same-signal s tables x (coming (seenOf s x)) in
+      record { event = coming-event (afterRun s x) i r; signal = rw (← g) (w .signal); end = rw (← g) (w .end) }
 
   pub run-fit : (k : ℕ) (x : Run) → Inv (afterRun s x) → FitFor (seenOf s (runOf s tables k x))
   unfolding runFrom

@@ -1,7 +1,7 @@
 -- Fresh and Keeps: a fresh start has the invariant, and every command keeps it. By subject: KeepsCharts, KeepsEvents with Blocks and
 -- Publish, KeepsSteps, KeepsClocks; Parts and Counts: each part of the invariant after a change, and the references.
 -- Tests: what a command's tests say. Dispatch: from the commands to any record. Replies: what holds of every reply.
--- Run and Drain: DRAIN's steps as a loop makes them that lets go of the blocks afterwards.
+-- Run and Drain: a run of steps that lets go of the blocks afterwards is what DRAIN does.
 pub mod Blocks
 pub mod Counts
 pub mod Dispatch

@@ -1,6 +1,6 @@
 use borrow.Author.Needs.{needs}
 use mathlib.Core.Path.{refl}
-use Rattle.machine.proofs.Run.{blockOf}
+use Rattle.machine.specs.Run.{blockOf}
 use Rattle.drain.proofs.block_of.Statement.{statement}
 use Rattle.drain.proofs.block_of.Tie as tie
 

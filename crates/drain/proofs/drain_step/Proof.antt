@@ -1,20 +1,19 @@
 use borrow.Author.Needs.{needs}
-use borrow.Author.Tests.{not-true, not-false}
 use mathlib.Core.Bool.{true, false}
-use mathlib.Core.Path.{_≡_, refl, sym, _∙_}
+use mathlib.Core.Path.{_≡_, refl, sym}
 use Prim.Native.Nat.{_+_, _-_, _<_, _≤_}
 use native.Mathlib.Omega.{arith}
 use lib.ListN.{getD, take, drop, length, length-set}
 use Rattle.chart.specs.Flat.{sound}
 use Rattle.ground.specs.Bools.{no-yes, refused, passed}
-use Rattle.machine.proofs.Run.{Fit, seen}
 use Rattle.machine.specs.Numbers.{tableBytes}
+use Rattle.machine.specs.Run.{Fit, seen}
 use Rattle.machine.specs.State.{State, restOf, slotOf}
 use Rattle.machine.specs.Steps.{nextRow}
 use Rattle.mail.specs.Box.{front}
 use Rattle.mail.specs.View.{highest-count}
-use Rattle.drain.specs.Turn.{Looks, Runs, runAt}
-use Rattle.drain.proofs.Laws.{none-queued, at-work, entry-event, row-unsound, row-sound, row-read, row-end, runs, acted}
+use Rattle.drain.specs.Turn.{Looks, runAt}
+use Rattle.drain.proofs.Laws.{none-queued, entry-event, row-unsound, row-sound, row-read, row-end, runs, acted}
 use Rattle.drain.proofs.drain_step.Statement.{statement}
 use Rattle.drain.proofs.drain_step.Tie as tie
 
@@ -27,7 +26,8 @@ here c =
 fit : (c : tie.Else1) → Fit (here c)
 fit c =
     let s = c .before .before .before .before .before in
-    s .pre .1 .1 (at-work (here c) (s .args .tables .now) (c .before .highest .result) (c .before .highest .ensures .0 _ _) (c .if1 .left))
+    let p = c .before .highest in
+    s .pre .1 .1 (omega (arith, p .ensures .0 (s .args .places .now) (s .args .heads .now), c .if1 .left))
 
 with-mail : (c : tie.Else1) → let p = c .before .highest .result in (p - 1 < 16) × (0 < getD (c .before .before .before .before .before .args .counts .now) (p - 1) 0)
 with-mail c =

@@ -3,7 +3,8 @@ use borrow.Author.Tests.{not-true, not-false}
 use mathlib.Core.Path.{_≡_, refl, sym, _∙_}
 use Prim.Native.Nat.{_-_, _≤_}
 use native.Mathlib.Omega.{arith}
-use Rattle.machine.proofs.Run.{FitRun, fit-now, fit-on, runFrom, run-end, run-stop, run-step}
+use Rattle.machine.proofs.Run.{fit-now, fit-on, run-end, run-stop, run-step}
+use Rattle.machine.specs.Run.{FitRun, runFrom}
 use Rattle.drain.specs.Turn.{Sized, runAt}
 use Rattle.drain.proofs.run.Statement.{statement}
 use Rattle.drain.proofs.run.Tie as tie

@@ -1,0 +1,69 @@
+use borrow.Author.Needs.{needs}
+use mathlib.Core.Path.{_≡_, refl, sym, _∙_}
+use Prim.Native.Nat.{_<_}
+use native.Mathlib.Omega.{arith}
+use lib.ListN.{length}
+use Rattle.chart.proofs.Accepted.{few-states}
+use Rattle.machine.specs.Charts.{load, loadTests}
+use Rattle.machine.specs.Numbers.{slots, tableBytes}
+use Rattle.machine.specs.Reply.{lowest}
+use Rattle.commands.specs.View.{areas, answered, stateOf}
+use Rattle.commands.proofs.Glue.{refusal, writing}
+use Rattle.commands.proofs.Slots.{class-most, fault-none, fault-some, load-tests, load-allowed}
+use Rattle.commands.proofs.charts.load.Statement.{statement}
+use Rattle.commands.proofs.charts.load.Tie as tie
+
+module _ (c : tie.After-load-refusal) where
+  abbrev entry : tie.Start
+  entry = c .before .before .before .before .before
+
+  tests-are : c .load-refusal .result ≡ lowest (loadTests (entry .args .spoilt) (entry .args .q) (stateOf (entry .args .k)) (entry .args .tables .now))
+  tests-are =
+      c .load-refusal .ensures
+      ∙ load-tests (entry .args .k) (entry .args .spoilt) (entry .args .q) 0 (entry .args .tables .now) _ _ (c .before .before .is-open .ensures) (c .before .slot-used .ensures)
+
+  allowed : c .load-refusal .result ≡ 0 → (entry .args .q < slots) × (length (entry .args .tables .now) ≡ tableBytes)
+  allowed z = load-allowed (entry .args .k) (entry .args .spoilt) (entry .args .q) _ (entry .args .tables .now) tests-are z
+
+returns : tie.Need-returns
+unfolding load
+returns c = λ p l. refusal _ _ _ _ (areas p _ l) _ (tests-are (c .before .before)) (c .before .if1 .taken) (c .refuse .ensures)
+
+cast-bad-chart : tie.Need-cast-bad-chart
+cast-bad-chart c = omega (arith, c .before .chart-check .ensures, class-most (entry (c .before .before .before) .args .chart .now))
+
+returns-2 : tie.Need-returns-2
+unfolding load answered
+returns-2 c = λ p l.
+    let d = c .before .before .before .before in
+    let class = c .before .before .chart-check .ensures in
+    writing _ _ _ _ (areas p _ l) _ (tests-are d) (areas p _ l) (c .before .before .before .if1 .left)
+    (rw (fault-some _ _ _ _ (λ e. c .before .if2 .taken (class ∙ e)), c .bad-chart .ensures, class) refl)
+
+fill-slot-requires : tie.Need-fill-slot-requires
+fill-slot-requires c κs =
+    let h = allowed (c .before .before .before .before) (c .before .before .before .if1 .left) in
+    (h .0, h .1, sym (c .before .before .chart-check .ensures) ∙ c .before .if2 .left)
+
+with-chart-requires : tie.Need-with-chart-requires
+with-chart-requires c κs = allowed (c .before .before .before .before .before .before .before) (c .before .before .before .before .before .before .if1 .left) .0
+
+cast-done : tie.Need-cast-done
+cast-done c =
+    let class = c .before .before .before .before .before .before .before .chart-check .ensures in
+    let d = entry (c .before .before .before .before .before .before .before .before .before) .args .chart .now in
+    omega (arith, c .chart-states .ensures, few-states d (sym class ∙ c .before .before .before .before .before .before .if2 .left))
+
+returns-3 : tie.Need-returns-3
+unfolding load answered
+returns-3 c = λ p l.
+    let d = c .before .before .before .before .before .before .before .before .before .before in
+    let class = c .before .before .before .before .before .before .before .before .chart-check .ensures in
+    writing _ _ _ _ (areas p (entry d .args .tables .now) l) _ (tests-are d) (areas p _ l) (c .before .before .before .before .before .before .before .before .before .if1 .left)
+    (rw (fault-none _ _ _ _ (sym class ∙ c .before .before .before .before .before .before .before .if2 .left), c .before .before .with-chart .ensures, c .done .ensures, c .before .chart-states .ensures, c .before .before .before .before .before .fill-slot .ensures) refl)
+
+pub load-spec : {M : Type 1} → statement M
+load-spec =
+    tie.close
+    (tie.spec (λ c κs. search needs) (λ c κs. search needs) (λ c κs. search needs) (λ c κs. search needs) returns (λ c κs. search needs) cast-bad-chart (λ c κs. search needs)
+    returns-2 fill-slot-requires with-chart-requires (λ c κs. search needs) cast-done (λ c κs. search needs) (λ c. search needs) returns-3)

@@ -1,0 +1,21 @@
+use borrow.Author.Needs.{needs}
+use Prim.Native.Nat.{_*_}
+use native.Mathlib.Omega.{arith}
+use Rattle.machine.specs.Charts.{startRow}
+use Rattle.commands.proofs.Slots.{row-past}
+use Rattle.commands.proofs.charts.start_row.Statement.{statement}
+use Rattle.commands.proofs.charts.start_row.Tie as tie
+
+returns : tie.Need-returns
+unfolding startRow
+returns c =
+    let a = c .before .before .before .args in
+    row-past (a .tables .now) (16152 * a .q) (omega (arith, c .before .if1 .taken))
+
+returns-2 : tie.Need-returns-2
+unfolding startRow
+returns-2 c = c .row-at .ensures
+
+pub start-row-spec : {M : Type 1} → statement M
+start-row-spec =
+    tie.close (tie.spec (λ c. search needs) (λ c. search needs) (λ c. search needs) returns (λ c. search needs) (λ c κs. search needs) returns-2)

@@ -1,0 +1,29 @@
+use borrow.Author.Needs.{needs}
+use mathlib.Core.Path.{refl}
+use Rattle.commands.specs.View.{answered, stateOf}
+use Rattle.commands.proofs.Runs.{ended-is, freed-is}
+use Rattle.commands.proofs.steps.end_done.Statement.{statement}
+use Rattle.commands.proofs.steps.end_done.Tie as tie
+
+returns : tie.Need-returns
+unfolding answered stateOf
+returns c = λ z.
+    let k = c .before .before .before .before .before .before .before .args .k in
+    let gone = c .before .before .before .before .let-go .ensures in
+    rw (
+      c .done .ensures,
+      c .before .one .ensures .0,
+      c .before .before .with-hand .ensures,
+      gone .row,
+      gone .answer,
+      c .before .before .before .before .before .wide .ensures .0,
+      c .before .before .before .before .before .before .block-of .ensures,
+      ended-is k,
+      freed-is k,
+    )
+    refl
+
+pub end-done-spec : {M : Type 1} → statement M
+end-done-spec =
+    tie.close
+    (tie.spec (λ c κs. search needs) (λ c κs. search needs) (λ c κs. search needs) (λ c κs. search needs) (λ c κs. search needs) (λ c κs. search needs) returns)

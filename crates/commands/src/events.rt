@@ -1,0 +1,228 @@
+// Events and their blocks.
+ghost use mathlib.Core.Bool.{false};
+ghost use mathlib.Core.Path.{_≡_};
+ghost use Prim.Native.Nat.{ℕ, _-_, _<_, _≤_};
+ghost use lib.ListN.{getD, set};
+ghost use Rattle.machine.specs.Events as machine;
+ghost use Rattle.machine.specs.Events.{fullReceiver, posted, postedFront, publishDone};
+ghost use Rattle.machine.specs.Reply.{Areas};
+ghost use Rattle.machine.specs.State.{withCells, withHolds};
+ghost use Rattle.pool.specs.View.{cells};
+ghost use Rattle.commands.specs.View.{answered, Good, stateOf};
+use super::Answered;
+use super::Kernel;
+use super::of_object;
+use super::one;
+use super::publish::any_full;
+use super::publish::publish_all;
+use super::publish::receivers;
+use super::refuse;
+use super::room_of;
+use ground::byte_at;
+use ground::wide;
+use pool::Pool;
+use reply::refusals::FULL;
+use reply::refusals::HOLDS;
+use reply::refusals::INUSE;
+use reply::refusals::handle_refusal;
+use reply::refusals::post_front_refusal;
+use reply::refusals::post_refusal;
+
+const MOST_HOLDS: u8 = 15;
+
+// Block b goes to the back of p's mailbox, which has room.
+fn post_back(k: Kernel, b: usize, p: usize) -> Kernel
+    requires { ⌜ (b < 56) × (1 ≤ p) × (p ≤ 16) × (getD (k .counts) (p - 1) 0 < 16) ⌝ }
+    ensures { λ r. ⌜ stateOf r ≡ posted (stateOf k) b p ⌝ }
+{
+    let mut places = k.places;
+    let heads = k.heads;
+    let mut counts = k.counts;
+    mail::push_back(&mut places, &heads, &mut counts, p - 1, 1 + b as u16);
+    let pool = pool::add(k.pool, b);
+    let mut next = k;
+    next.places = places;
+    next.counts = counts;
+    next.pool = pool;
+    next
+}
+
+// POST handle, p, margin.
+pub fn post(k: Kernel, spoilt: bool, b: usize, generation: u8, p: usize, margin: usize) -> Answered
+    requires { ⌜ Good k ⌝ }
+    ensures { λ r. ⌜ ((z : Areas) → answered r z ≡ machine.post spoilt b generation p margin (stateOf k) z) ⌝ }
+{
+    let depths = k.depths;
+    let counts = k.counts;
+    let depth = of_object(&depths, p);
+    let queued = of_object(&counts, p);
+    let stale = pool::stale(k.pool, b, generation);
+    let no = post_refusal(
+        spoilt,
+        b,
+        p,
+        margin,
+        stale,
+        depth != 0,
+        room_of(depth, queued),
+    );
+    if no != 0 {
+        return refuse(k, no);
+    }
+    Answered {
+        kernel: post_back(k, b, p),
+        reply: reply::done((queued + 1) as u8, 0),
+    }
+}
+
+// Block b goes to the front of p's mailbox, which has room.
+fn post_ahead(k: Kernel, b: usize, p: usize) -> Kernel
+    requires { ⌜ (b < 56) × (1 ≤ p) × (p ≤ 16) × (getD (k .counts) (p - 1) 0 < 16) ⌝ }
+    ensures { λ r. ⌜ stateOf r ≡ postedFront (stateOf k) b p ⌝ }
+{
+    let mut places = k.places;
+    let mut heads = k.heads;
+    let mut counts = k.counts;
+    mail::push_front(&mut places, &mut heads, &mut counts, p - 1, 1 + b as u16);
+    let pool = pool::add(k.pool, b);
+    let mut next = k;
+    next.places = places;
+    next.heads = heads;
+    next.counts = counts;
+    next.pool = pool;
+    next
+}
+
+// POSTFRONT handle, p.
+pub fn post_front(k: Kernel, spoilt: bool, b: usize, generation: u8, p: usize) -> Answered
+    requires { ⌜ Good k ⌝ }
+    ensures { λ r. ⌜ ((z : Areas) → answered r z ≡ machine.postFront spoilt b generation p (stateOf k) z) ⌝ }
+{
+    let depths = k.depths;
+    let counts = k.counts;
+    let depth = of_object(&depths, p);
+    let queued = of_object(&counts, p);
+    let stale = pool::stale(k.pool, b, generation);
+    let no = post_front_refusal(spoilt, b, p, stale, depth != 0, room_of(depth, queued));
+    if no != 0 {
+        return refuse(k, no);
+    }
+    Answered {
+        kernel: post_ahead(k, b, p),
+        reply: reply::done((queued + 1) as u8, 0),
+    }
+}
+
+// The kernel with another pool.
+fn with_pool(k: Kernel, pool: Pool) -> Kernel
+    ensures { λ r. ⌜ stateOf r ≡ withCells (cells pool) (stateOf k) ⌝ }
+{
+    let mut next = k;
+    next.pool = pool;
+    next
+}
+
+// What PUBLISH does where every subscriber to the event's signal g has a place.
+fn publish_done(k: Kernel, b: usize, g: usize) -> Answered
+    requires { ⌜ (b < 56) × (g < 256) × (g ≡ getD (k .signals) b 0) ⌝ }
+    requires { ⌜ (fullReceiver (stateOf k) g 16 ≡ false) × ((q : ℕ) → getD (k .depths) q 0 ≤ 16) ⌝ }
+    ensures { λ r. ⌜ ((z : Areas) → answered r z ≡ publishDone (machine.receivers (stateOf k) g 16) b (stateOf k) z) ⌝ }
+{
+    let wants = k.wants;
+    let n = receivers(&wants, g);
+    if n == 0 {
+        let gone = pool::drop_new(k.pool, b);
+        return Answered {
+            kernel: with_pool(k, gone.pool),
+            reply: reply::done(0, one(gone.freed)),
+        };
+    }
+    Answered {
+        kernel: publish_all(k, b, g),
+        reply: reply::done(n, 0),
+    }
+}
+
+// PUBLISH handle. Whether a subscriber has no place is known before the first gets the event: all or none.
+pub fn publish(k: Kernel, spoilt: bool, b: usize, generation: u8) -> Answered
+    requires { ⌜ Good k ⌝ }
+    ensures { λ r. ⌜ ((z : Areas) → answered r z ≡ machine.publish spoilt b generation (stateOf k) z) ⌝ }
+{
+    let signals = k.signals;
+    let wants = k.wants;
+    let depths = k.depths;
+    let counts = k.counts;
+    let g = wide(byte_at(&signals, b));
+    let stale = pool::stale(k.pool, b, generation);
+    let full = any_full(&wants, &depths, &counts, g);
+    let no = handle_refusal(spoilt, b, stale, FULL, full);
+    if no != 0 {
+        return refuse(k, no);
+    }
+    publish_done(k, b, g)
+}
+
+// The kernel with another pool and n holds on block b.
+fn with_holds(k: Kernel, pool: Pool, b: usize, n: u8) -> Kernel
+    requires { ⌜ b < 56 ⌝ }
+    ensures { λ r. ⌜ stateOf r ≡ withHolds (set (k .holds) b n) (withCells (cells pool) (stateOf k)) ⌝ }
+{
+    let mut next = k;
+    next.holds[b] = n;
+    next.pool = pool;
+    next
+}
+
+// HOLD handle: a hold is a reference.
+pub fn hold(k: Kernel, spoilt: bool, b: usize, generation: u8) -> Answered
+    requires { ⌜ Good k ⌝ }
+    ensures { λ r. ⌜ ((z : Areas) → answered r z ≡ machine.hold spoilt b generation (stateOf k) z) ⌝ }
+{
+    let holds = k.holds;
+    let n = byte_at(&holds, b);
+    let stale = pool::stale(k.pool, b, generation);
+    let no = handle_refusal(spoilt, b, stale, HOLDS, MOST_HOLDS <= n);
+    if no != 0 {
+        return refuse(k, no);
+    }
+    Answered {
+        kernel: with_holds(k, pool::add(k.pool, b), b, n + 1),
+        reply: reply::done(n + 1, 0),
+    }
+}
+
+// RELEASE handle: the last reference frees the event.
+pub fn release(k: Kernel, spoilt: bool, b: usize, generation: u8) -> Answered
+    requires { ⌜ Good k ⌝ }
+    ensures { λ r. ⌜ ((z : Areas) → answered r z ≡ machine.release spoilt b generation (stateOf k) z) ⌝ }
+{
+    let holds = k.holds;
+    let n = byte_at(&holds, b);
+    let stale = pool::stale(k.pool, b, generation);
+    let no = handle_refusal(spoilt, b, stale, HOLDS, n == 0);
+    if no != 0 {
+        return refuse(k, no);
+    }
+    let gone = pool::let_go(k.pool, b);
+    Answered {
+        kernel: with_holds(k, gone.pool, b, n - 1),
+        reply: reply::done(n - 1, one(gone.freed)),
+    }
+}
+
+// DROP handle: frees a new event.
+pub fn drop_event(k: Kernel, spoilt: bool, b: usize, generation: u8) -> Answered
+    requires { ⌜ Good k ⌝ }
+    ensures { λ r. ⌜ ((z : Areas) → answered r z ≡ machine.dropEvent spoilt b generation (stateOf k) z) ⌝ }
+{
+    let stale = pool::stale(k.pool, b, generation);
+    let gone = pool::drop_new(k.pool, b);
+    let no = handle_refusal(spoilt, b, stale, INUSE, !gone.freed);
+    if no != 0 {
+        return refuse(k, no);
+    }
+    Answered {
+        kernel: with_pool(k, gone.pool),
+        reply: reply::done(0, 0),
+    }
+}

@@ -1,0 +1,199 @@
+// NEW and READ, which use the payload area.
+ghost use mathlib.Core.List.{List};
+ghost use mathlib.Core.Path.{_≡_};
+ghost use Prim.Native.Nat.{ℕ, _+_, _<_, _≤_};
+ghost use lib.ListN.{getD, length};
+ghost use Rattle.ground.specs.Bytes.{padded};
+ghost use Rattle.machine.specs.Events as machine;
+ghost use Rattle.machine.specs.Events.{newEvent, newIn, payloadOf, readTests};
+ghost use Rattle.machine.specs.Machine.{partOf};
+ghost use Rattle.machine.specs.Numbers.{capacity, placeOf};
+ghost use Rattle.machine.specs.Reply.{lowest, over};
+ghost use Rattle.pool.specs.Cell.{handedOut};
+ghost use Rattle.pool.specs.Row.{changed};
+ghost use Rattle.pool.specs.View.{cells};
+ghost use Rattle.pool.specs.declared.Found.the-variants.{At};
+ghost use Rattle.commands.specs.View.{answered, areas, Good, stateOf};
+use super::Answered;
+use super::Kernel;
+use super::refuse;
+use ground::wide;
+use pool::Found;
+use pool::Pool;
+use reply::refusals::new_refusal;
+use reply::refusals::read_refusal;
+
+const PAYLOADS: usize = 1536;
+
+// The first block of 32 bytes and the first of 64, and where these begin in the payload area.
+const MIDDLE: usize = 32;
+
+const LARGE: usize = 48;
+
+const MIDDLE_PLACE: usize = 512;
+
+const LARGE_PLACE: usize = 1024;
+
+// A record of READ: its length, its number, and the first byte behind its arguments.
+const RECORD: usize = 72;
+
+const READ: u8 = 17;
+
+const UNUSED: usize = 3;
+
+// How many bytes block b holds.
+fn capacity_of(b: usize) -> usize
+    ensures { λ r. ⌜ (r ≡ capacity b) × (r ≤ 64) ⌝ }
+{
+    if b < MIDDLE {
+        return 16;
+    }
+    if b < LARGE {
+        return 32;
+    }
+    64
+}
+
+// Where block b begins in the payload area.
+fn place_of(b: usize) -> usize
+    requires { ⌜ b < 56 ⌝ }
+    ensures { λ r. ⌜ (r ≡ placeOf b) × (r < 1536) ⌝ }
+{
+    if b < MIDDLE {
+        return 16 * b;
+    }
+    if b < LARGE {
+        return MIDDLE_PLACE + 32 * (b - MIDDLE);
+    }
+    LARGE_PLACE + 64 * (b - LARGE)
+}
+
+// The payload goes to the place of block b; the rest of the block is 0.
+fn put_payload(b: usize, payload: &[u8], payloads: &mut [u8])
+    requires { ⌜ (b < 56) × (length (now payloads) ≡ 1536) ⌝ }
+    ensures { λ _. ⌜ now (payloads .exit) ≡ over (now (payloads .entry)) (placeOf b) (padded (capacity b) (now (payload .entry))) ⌝ }
+{
+    let at = place_of(b);
+    let e = at + capacity_of(b);
+    ground::fill(&mut payloads[at..e], payload);
+}
+
+// The event in block b, which the pool has handed out: its signal, its size, no holds.
+fn new_event(k: Kernel, pool: Pool, b: usize, g: u8, size: u8) -> Kernel
+    requires { ⌜ (b < 56) × (cells pool ≡ changed handedOut (cells (k .pool)) b) ⌝ }
+    ensures { λ r. ⌜ stateOf r ≡ newEvent (stateOf k) b g size ⌝ }
+{
+    let mut next = k;
+    next.pool = pool;
+    next.signals[b] = g;
+    next.sizes[b] = size;
+    next.holds[b] = 0;
+    next
+}
+
+// What NEW does with block b.
+fn new_in(
+    k: Kernel,
+    pool: Pool,
+    b: usize,
+    g: u8,
+    size: u8,
+    payload: &[u8],
+    payloads: &mut [u8],
+) -> Answered
+    requires { ⌜ (b < 56) × (size ≤ length (now payload)) × (length (now payloads) ≡ 1536) × (cells pool ≡ changed handedOut (cells (k .pool)) b) ⌝ }
+    ensures { λ r. ⌜ ((t l : List ℕ) → answered r (areas (now (payloads .exit)) t l)
+        ≡ newIn (At b) g size (now (payload .entry)) (stateOf k) (areas (now (payloads .entry)) t l)) ⌝ }
+{
+    let n = wide(size);
+    put_payload(b, &payload[0..n], payloads);
+    let generation = pool::generation(k.pool, b);
+    Answered {
+        kernel: new_event(k, pool, b, g, size),
+        reply: reply::done(b as u8, generation),
+    }
+}
+
+// NEW signal, size, payload: the 64 payload bytes of the record.
+pub fn new(
+    k: Kernel,
+    spoilt: bool,
+    g: u8,
+    size: u8,
+    payload: &[u8],
+    payloads: &mut [u8],
+) -> Answered
+    requires { ⌜ length (now payload) ≡ 64 ⌝ }
+    ensures { λ r. ⌜ ((t l : List ℕ) → answered r (areas (now (payloads .exit)) t l)
+        ≡ machine.new spoilt g size (now (payload .entry)) (stateOf k) (areas (now (payloads .entry)) t l)) ⌝ }
+{
+    let n = wide(size);
+    let bad = payloads.len() != PAYLOADS;
+    let taken = pool::take(k.pool, n);
+    let found = taken.found;
+    match found {
+        Found::Nothing => refuse(k, new_refusal(spoilt, bad, wide(g), n, true)),
+        Found::At(b) => {
+            let no = new_refusal(spoilt, bad, wide(g), n, false);
+            if no != 0 {
+                return refuse(k, no);
+            }
+            new_in(k, taken.pool, b, g, size, payload, payloads)
+        }
+    }
+}
+
+// The tests of READ.
+fn read_no(k: Kernel, spoilt: bool, b: usize, generation: u8, payloads: &[u8]) -> u8
+    ensures { λ r. ⌜ r ≡ lowest (readTests spoilt b generation (stateOf k) (now (payloads .entry))) ⌝ }
+{
+    let stale = pool::stale(k.pool, b, generation);
+    read_refusal(spoilt, payloads.len() != PAYLOADS, b, stale)
+}
+
+// The payload of block b: the part of the payload area that it occupies.
+fn payload_in<'a>(k: Kernel, b: usize, payloads: &'a [u8]) -> &'a [u8]
+    requires { ⌜ (b < 56) × (placeOf b + getD (k .sizes) b 0 ≤ length (now payloads)) ⌝ }
+    ensures { λ r. ⌜ now r ≡ payloadOf (stateOf k) b (now (payloads .entry)) ⌝ }
+{
+    let at = place_of(b);
+    let sizes = k.sizes;
+    let e = at + wide(sizes[b]);
+    &payloads[at..e]
+}
+
+// READ handle.
+pub fn read(k: Kernel, spoilt: bool, b: usize, generation: u8, payloads: &[u8]) -> Answered
+    requires { ⌜ Good k ⌝ }
+    ensures { λ r. ⌜ ((t l : List ℕ) → answered r (areas (now (payloads .entry)) t l)
+        ≡ machine.read spoilt b generation (stateOf k) (areas (now (payloads .entry)) t l)) ⌝ }
+{
+    let no = read_no(k, spoilt, b, generation, payloads);
+    if no != 0 {
+        return refuse(k, no);
+    }
+    Answered {
+        kernel: k,
+        reply: reply::shown(payload_in(k, b, payloads)),
+    }
+}
+
+// The part of the payload area that READ hands back: empty when refused, and for any other record.
+pub fn read_part<'a>(k: Kernel, record: &[u8], payloads: &'a [u8]) -> &'a [u8]
+    requires { ⌜ Good k ⌝ }
+    ensures { λ r. ⌜ now r ≡ partOf (stateOf k) (now («record» .entry)) (now (payloads .entry)) ⌝ }
+{
+    if record.len() != RECORD {
+        return &payloads[0..0];
+    }
+    if record[0] != READ {
+        return &payloads[0..0];
+    }
+    let spoilt = !ground::blank(record, UNUSED, RECORD);
+    let b = wide(record[1]);
+    let no = read_no(k, spoilt, b, record[2], payloads);
+    if no != 0 {
+        return &payloads[0..0];
+    }
+    payload_in(k, b, payloads)
+}

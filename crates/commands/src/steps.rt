@@ -1,0 +1,250 @@
+// Steps: NEXT, END, DRAIN.
+ghost use mathlib.Core.Bool.{cond};
+ghost use mathlib.Core.List.{List};
+ghost use mathlib.Core.Path.{_≡_};
+ghost use Prim.Native.Nat.{ℕ, _-_, _<_, _≤_};
+ghost use lib.Dec.{eqb, ltb};
+ghost use lib.ListN.{getD, length, set};
+ghost use Rattle.machine.specs.Numbers.{tableBytes, logBytes};
+ghost use Rattle.machine.specs.Reply.{Areas, answer, done, ran};
+ghost use Rattle.machine.specs.Run.{Fit};
+ghost use Rattle.machine.specs.State.{restOf, slotOf, withBoxes, withHand, withRests};
+ghost use Rattle.machine.specs.Steps as machine;
+ghost use Rattle.machine.specs.Steps.{drainDone, drainFrom, ended, frees, handle₁, handle₂, toRun};
+ghost use Rattle.mail.specs.Box.{front, one, tookFront};
+ghost use Rattle.mail.specs.declared.Hand.the-variants.{Nothing};
+ghost use Rattle.drain.specs.Turn.{Looks, Runs};
+ghost use Rattle.commands.specs.View.{answered, areas, Good, holding, stateOf};
+use super::Answered;
+use super::Kernel;
+use super::is_open;
+use super::one;
+use super::refuse;
+use drain::Coming;
+use ground::wide;
+use mail::Hand;
+use reply::first;
+use reply::refusals::TABLE;
+use reply::refusals::drain_refusal;
+use reply::refusals::end_refusal;
+use reply::refusals::next_refusal;
+
+const TABLES: usize = 64608;
+
+const LOG: usize = 6120;
+
+const ROW: usize = 24;
+
+const MOST_STEPS: usize = 255;
+
+// DRAIN's second value: nothing is queued, or it stopped below its budget.
+const ALL_DONE: u8 = 1;
+
+const STOPPED: u8 = 2;
+
+// The kernel with another event in hand.
+fn with_hand(k: Kernel, hand: Hand) -> Kernel
+    ensures { λ r. ⌜ r ≡ holding k hand ⌝ }
+{
+    let pool = k.pool;
+    let signals = k.signals;
+    let sizes = k.sizes;
+    let holds = k.holds;
+    let places = k.places;
+    let heads = k.heads;
+    let counts = k.counts;
+    let depths = k.depths;
+    let rests = k.rests;
+    let seats = k.seats;
+    let wants = k.wants;
+    let loaded = k.loaded;
+    let owners = k.owners;
+    let alarms = k.alarms;
+    let counters = k.counters;
+    let intervals = k.intervals;
+    Kernel {
+        pool,
+        signals,
+        sizes,
+        holds,
+        places,
+        heads,
+        counts,
+        depths,
+        rests,
+        seats,
+        wants,
+        loaded,
+        owners,
+        alarms,
+        counters,
+        intervals,
+        hand,
+    }
+}
+
+// The front event of object p leaves the mailbox and is in hand; the next state is the new rest at once.
+fn step(k: Kernel, p: usize, hand: Hand, next: u8) -> Kernel
+    requires { ⌜ (1 ≤ p) × (p ≤ 16) × (0 < getD (k .counts) (p - 1) 0) ⌝ }
+    ensures { λ r. ⌜ stateOf r ≡ withBoxes (tookFront (stateOf k .boxes) (p - 1)) (withRests (set (k .rests) (p - 1) next) (withHand hand (stateOf k))) ⌝ }
+{
+    let places = k.places;
+    let mut heads = k.heads;
+    let mut counts = k.counts;
+    let mut rests = k.rests;
+    mail::take_front(&places, &mut heads, &mut counts, p - 1);
+    rests[p - 1] = next;
+    let mut after = with_hand(k, hand);
+    after.heads = heads;
+    after.counts = counts;
+    after.rests = rests;
+    after
+}
+
+// The event that comes to object p, which has mail.
+fn coming(k: Kernel, p: usize) -> Coming
+    requires { ⌜ (1 ≤ p) × (p ≤ 16) × (0 < getD (k .counts) (p - 1) 0) ⌝ }
+    requires { ⌜ (p ≡ toRun (stateOf k)) × Fit (stateOf k) ⌝ }
+    ensures { λ r. ⌜ Looks (stateOf k) (front (stateOf k .boxes) (p - 1)) (restOf (stateOf k) p) (slotOf (stateOf k) p) r ⌝ }
+{
+    let places = k.places;
+    let heads = k.heads;
+    let counts = k.counts;
+    let signals = k.signals;
+    let rests = k.rests;
+    let seats = k.seats;
+    let e = mail::front(&places, &heads, &counts, p - 1);
+    drain::look(&signals, e, rests[p - 1], seats[p - 1])
+}
+
+// Object p takes a row with the event that comes.
+fn next_done(k: Kernel, p: usize, l: Coming, row: &[u8]) -> Answered
+    requires { ⌜ (1 ≤ p) × (p ≤ 16) × (0 < getD (k .counts) (p - 1) 0) ⌝ }
+    requires { ⌜ Runs p l (now row) ⌝ }
+    ensures { λ r. ⌜ ((z : Areas) → answered r z ≡
+        answer (withBoxes (tookFront (stateOf k .boxes) (p - 1)) (withRests (set (k .rests) (p - 1) (getD (now (row .entry)) 0 0)) (withHand (l .hand) (stateOf k))))
+        (ran p (l .signal) (handle₁ (l .hand)) (handle₂ (stateOf k) (l .hand)) (now (row .entry))) z) ⌝ }
+{
+    let gens = pool::generations(k.pool);
+    let reply = drain::answer(p, l, &gens, row);
+    let hand = l.hand;
+    Answered {
+        kernel: step(k, p, hand, row[0]),
+        reply: reply,
+    }
+}
+
+// NEXT. The row is tested last, once there is an event that it is for.
+pub fn next(k: Kernel, spoilt: bool, tables: &[u8]) -> Answered
+    requires { ⌜ Good k ⌝ }
+    ensures { λ r. ⌜ ((p l : List ℕ) → answered r (areas p (now (tables .entry)) l) ≡ machine.next spoilt (stateOf k) (areas p (now (tables .entry)) l)) ⌝ }
+{
+    let hand = k.hand;
+    let counts = k.counts;
+    let p = mail::highest(&counts);
+    let bad = tables.len() != TABLES;
+    let no = next_refusal(spoilt, bad, is_open(hand), p, true);
+    if no != 0 {
+        return refuse(k, no);
+    }
+    let l = coming(k, p);
+    let at = l.at;
+    let row = &tables[at..at + ROW];
+    if !chart::sound(row) {
+        return refuse(k, TABLE);
+    }
+    next_done(k, p, l, row)
+}
+
+// The event in hand is let go.
+fn end_done(k: Kernel) -> Answered
+    ensures { λ r. ⌜ ((z : Areas) → answered r z ≡ answer (ended (stateOf k)) (done (one (frees (k .hand) (stateOf k))) 0) z) ⌝ }
+{
+    let hand = k.hand;
+    let gone = pool::let_go(k.pool, wide(drain::block_of(hand)));
+    let pool = gone.pool;
+    let freed = gone.freed;
+    let mut after = with_hand(k, Hand::Nothing);
+    after.pool = pool;
+    Answered {
+        kernel: after,
+        reply: reply::done(one(freed), 0),
+    }
+}
+
+// END.
+pub fn end(k: Kernel, spoilt: bool) -> Answered
+    requires { ⌜ Good k ⌝ }
+    ensures { λ r. ⌜ ((z : Areas) → answered r z ≡ machine.end spoilt (stateOf k) z) ⌝ }
+{
+    let hand = k.hand;
+    let no = end_refusal(spoilt, is_open(hand));
+    if no != 0 {
+        return refuse(k, no);
+    }
+    end_done(k)
+}
+
+// DRAIN's second value: 1 if nothing is queued, else 2 if it stopped below its budget, else 0.
+fn drain_end(p: usize, steps: usize, budget: usize) -> u8
+    ensures { λ r. ⌜ r ≡ cond (eqb p 0) 1 (cond (ltb steps budget) 2 0) ⌝ }
+{
+    first(ALL_DONE, p == 0, first(STOPPED, steps < budget, 0))
+}
+
+// The steps of DRAIN over arrays of their own; then all their blocks are let go at once.
+fn drain_done(k: Kernel, budget: usize, tables: &[u8], log: &mut [u8]) -> Answered
+    requires { ⌜ Good k × (k .hand ≡ Nothing) × (budget < 256) ⌝ }
+    requires { ⌜ (length (now tables) ≡ tableBytes) × (length (now log) ≡ logBytes) ⌝ }
+    ensures { λ r. ⌜ ((p : List ℕ) → answered r (areas p (now (tables .entry)) (now (log .exit)))
+        ≡ drainDone budget (drainFrom budget 0 (stateOf k) (now (tables .entry)) (now (log .entry))) (areas p (now (tables .entry)) (now (log .entry)))) ⌝ }
+{
+    let places = k.places;
+    let mut heads = k.heads;
+    let mut counts = k.counts;
+    let mut rests = k.rests;
+    let seats = k.seats;
+    let signals = k.signals;
+    let gens = pool::generations(k.pool);
+    let mut gone = [0u8; MOST_STEPS];
+    let n = drain::run(
+        &places,
+        &mut heads,
+        &mut counts,
+        &mut rests,
+        &seats,
+        &signals,
+        &gens,
+        &mut gone,
+        tables,
+        log,
+        budget,
+    );
+    let pool = pool::let_go_all(k.pool, &gone[0..n]);
+    let last = drain_end(mail::highest(&counts), n, budget);
+    let mut after = k;
+    after.pool = pool;
+    after.heads = heads;
+    after.counts = counts;
+    after.rests = rests;
+    Answered {
+        kernel: after,
+        reply: reply::done(n as u8, last),
+    }
+}
+
+// DRAIN budget.
+pub fn drain(k: Kernel, spoilt: bool, budget: usize, tables: &[u8], log: &mut [u8]) -> Answered
+    requires { ⌜ Good k × (budget < 256) ⌝ }
+    ensures { λ r. ⌜ ((p : List ℕ) → answered r (areas p (now (tables .entry)) (now (log .exit)))
+        ≡ machine.drain spoilt budget (stateOf k) (areas p (now (tables .entry)) (now (log .entry)))) ⌝ }
+{
+    let hand = k.hand;
+    let bad_tables = tables.len() != TABLES;
+    let bad_log = log.len() != LOG;
+    let no = drain_refusal(spoilt, bad_tables, bad_log, is_open(hand));
+    if no != 0 {
+        return refuse(k, no);
+    }
+    drain_done(k, budget, tables, log)
+}

@@ -1,0 +1,76 @@
+// Subscriptions.
+ghost use mathlib.Core.Path.{_≡_};
+ghost use Prim.Native.Nat.{_≤_};
+ghost use Rattle.machine.specs.Events as machine;
+ghost use Rattle.machine.specs.Reply.{Areas, lowest};
+ghost use Rattle.machine.specs.State.{subscribed};
+ghost use Rattle.commands.specs.View.{answered, stateOf};
+use super::Answered;
+use super::Kernel;
+use super::of_object;
+use super::one;
+use super::refuse;
+use reply::refusals::subscribe_refusal;
+
+// Each object has a place for each number below 32.
+const SIGNALS: usize = 32;
+
+const SUBSCRIBED: u8 = 1;
+
+const NOT_SUBSCRIBED: u8 = 0;
+
+// Whether p subscribes to g.
+fn subscribes(k: Kernel, p: usize, g: usize) -> bool
+    requires { ⌜ (1 ≤ p) × (p ≤ 16) × (g ≤ 31) ⌝ }
+    ensures { λ r. ⌜ r ≡ subscribed (stateOf k) p g ⌝ }
+{
+    k.wants[SIGNALS * (p - 1) + g] == SUBSCRIBED
+}
+
+// Object p subscribes to g from now on, or does not.
+fn wanting(k: Kernel, p: usize, g: usize, v: u8) -> Kernel
+    requires { ⌜ (1 ≤ p) × (p ≤ 16) × (g ≤ 31) ⌝ }
+    ensures { λ r. ⌜ stateOf r ≡ machine.wanting (stateOf k) p g v ⌝ }
+{
+    let mut next = k;
+    next.wants[SIGNALS * (p - 1) + g] = v;
+    next
+}
+
+// The tests of both commands.
+fn subscribe_no(k: Kernel, spoilt: bool, p: usize, g: usize) -> u8
+    ensures { λ r. ⌜ r ≡ lowest (machine.subscribeTests spoilt p g (stateOf k)) ⌝ }
+{
+    let depths = k.depths;
+    subscribe_refusal(spoilt, p, g, of_object(&depths, p) != 0)
+}
+
+// SUBSCRIBE p, signal.
+pub fn subscribe(k: Kernel, spoilt: bool, p: usize, g: usize) -> Answered
+    ensures { λ r. ⌜ ((z : Areas) → answered r z ≡ machine.subscribe spoilt p g (stateOf k) z) ⌝ }
+{
+    let no = subscribe_no(k, spoilt, p, g);
+    if no != 0 {
+        return refuse(k, no);
+    }
+    let was = subscribes(k, p, g);
+    Answered {
+        kernel: wanting(k, p, g, SUBSCRIBED),
+        reply: reply::done(one(!was), 0),
+    }
+}
+
+// UNSUBSCRIBE p, signal.
+pub fn unsubscribe(k: Kernel, spoilt: bool, p: usize, g: usize) -> Answered
+    ensures { λ r. ⌜ ((z : Areas) → answered r z ≡ machine.unsubscribe spoilt p g (stateOf k) z) ⌝ }
+{
+    let no = subscribe_no(k, spoilt, p, g);
+    if no != 0 {
+        return refuse(k, no);
+    }
+    let was = subscribes(k, p, g);
+    Answered {
+        kernel: wanting(k, p, g, NOT_SUBSCRIBED),
+        reply: reply::done(one(was), 0),
+    }
+}

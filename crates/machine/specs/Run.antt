@@ -1,0 +1,87 @@
+-- DRAIN's steps as a loop makes them that leaves the blocks alone, and lets go of all of them afterwards. That it does what DRAIN does
+-- is a law (proofs/Drain).
+use mathlib.Core.Bool.{cond}
+use mathlib.Core.List.{List, [], _∷_, _++_}
+use Prim.Native.Nat.{ℕ, zero, suc, _+_, _*_, _-_, _≤_, _<_}
+use lib.Dec.{eqb}
+use lib.ListN.{getD, set}
+use Rattle.chart.specs.Flat.{place}
+use Rattle.chart.specs.Numbers.{slotSize, rowSize}
+use Rattle.ground.specs.Range.{tab}
+use Rattle.mail.specs.Box.{tookFront}
+use Rattle.mail.specs.declared.Hand.{Hand}
+use Rattle.mail.specs.declared.Hand.the-variants.{Nothing, Block, Timer}
+use Rattle.pool.specs.Cell.{free}
+use Rattle.pool.specs.Row.{blocks, goneAll}
+use Rattle.machine.specs.Inv.{IsEvent, IsSignal}
+use Rattle.machine.specs.Numbers.{tableBytes}
+use Rattle.machine.specs.Reply.{lowest}
+use Rattle.machine.specs.State.{State, restOf, slotOf, withCells, withBoxes, withRests}
+use Rattle.machine.specs.Steps.{toRun, coming, signalOf, nextRow, stepTests, logged}
+
+-- What changes from step to step: how many there were, the mailboxes, the states of rest, the log, and the blocks to let go, in order.
+pub record Run : Type 0 where
+  pub steps : ℕ
+  pub boxes : List (List ℕ)
+  pub rests : List ℕ
+  pub log : List ℕ
+  pub gone : List ℕ
+
+-- The block that an event in hand is; 255, which is no block, for a timer.
+unfoldable pub blockOf : Hand → ℕ
+blockOf Nothing = 255
+blockOf (Block b) = b
+blockOf (Timer t g) = 255
+
+-- A run begins in a state, and leaves one: all that it does not speak of is as it was.
+abbrev pub begun : State → List ℕ → Run
+begun s log = record { steps = 0; boxes = s .boxes; rests = s .objects .rests; log = log; gone = [] }
+
+abbrev pub afterRun : State → Run → State
+afterRun s x = withCells (goneAll (s .cells) (x .gone)) (withBoxes (x .boxes) (withRests (x .rests) s))
+
+-- What a step reads, over the generations, the signals and the slots of the start: a state with all else empty.
+abbrev pub seen : List ℕ → List ℕ → List ℕ → Run → State
+seen gens signals seats x = record {
+  cells = tab (λ b. free (getD gens b 0)) blocks;
+  events = record { signals = signals; sizes = []; holds = [] };
+  boxes = x .boxes;
+  objects = record { depths = []; rests = x .rests; seats = seats };
+  wants = [];
+  loaded = [];
+  timers = record { owners = []; alarms = []; counters = []; intervals = [] };
+  hand = Nothing;
+}
+
+-- What a step needs of the state that it is taken in: what comes is an event with a signal, and its row lies in the tables.
+pub record Fit (s : State) : Type 0 where
+  pub event : IsEvent (coming s)
+  pub signal : IsSignal (signalOf s (coming s))
+  pub end : slotSize * slotOf s (toRun s) + place (restOf s (toRun s)) (signalOf s (coming s)) + rowSize ≤ tableBytes
+
+-- It is so if anything is queued.
+abbrev pub FitFor : State → Type 0
+FitFor s = 0 < toRun s → Fit s
+
+module _ (gens signals seats tables : List ℕ) where
+  -- 0 if a step may be taken, else why not
+  abbrev pub mayStep : Run → ℕ
+  mayStep x = lowest (stepTests (seen gens signals seats x) tables)
+
+  unfoldable pub onward : Run → Run
+  onward x = record {
+    steps = x .steps + 1;
+    boxes = tookFront (x .boxes) (toRun (seen gens signals seats x) - 1);
+    rests = set (x .rests) (toRun (seen gens signals seats x) - 1) (getD (nextRow (seen gens signals seats x) tables) 0 0);
+    log = logged (seen gens signals seats x) tables (x .steps) (x .log);
+    gone = x .gone ++ (blockOf (coming (seen gens signals seats x)) ∷ []);
+  }
+
+  -- at most k steps more
+  unfoldable pub runFrom : ℕ → Run → Run
+  runFrom zero x = x
+  runFrom (suc k) x = let more : Run = runFrom k (onward x) in cond (eqb (mayStep x) 0) more x
+
+  -- each state that a run comes to, from x on, is fit for a step
+  abbrev pub FitRun : Run → Type 0
+  FitRun x = (k : ℕ) → FitFor (seen gens signals seats (runFrom k x))
