@@ -4,6 +4,9 @@
 
 ghost use Prim.Native.Nat.{_≤_};
 ghost use lib.ListN.{length};
+use input::low_byte_first;
+use input::read_exactly;
+use text::sum_of;
 use text::wide;
 
 const SLOT_BYTES: usize = 16152;
@@ -23,16 +26,6 @@ struct Case {
     length: u16,
 }
 
-// Reads the next n bytes into the front of the buffer. It answers false if the buffer or the input is too short.
-fn read_exactly(buffer: &mut [u8], n: u16) -> bool {
-    let room = io::count(n as isize, buffer);
-    io::read_full(libc::STDIN_FILENO, &mut buffer[..room]) == n as usize
-}
-
-fn low_byte_first(low: u8, high: u8) -> u16 {
-    low as u16 + 256 * high as u16
-}
-
 // Reads a case, whose chart goes to the front of the buffer.
 fn read_case(buffer: &mut [u8]) -> Case {
     let mut header = [0u8; 3];
@@ -49,20 +42,6 @@ fn read_case(buffer: &mut [u8]) -> Case {
         rows: header[0] == 1,
         length,
     }
-}
-
-// The sum of each byte times its place, counted from 1, modulo 2 to the 32. Going down, every place adds
-// all bytes from there on, so a byte is added once for each place up to its own: no product can overflow.
-fn sum_of(slot: &[u8]) -> u64 {
-    let mut from_here: u64 = 0;
-    let mut sum: u64 = 0;
-    let mut i = slot.len();
-    while 0 < i {
-        i -= 1;
-        from_here = std::num::wrapping_add_u64(from_here, wide(slot[i]));
-        sum = std::num::wrapping_add_u64(sum, from_here);
-    }
-    sum % 4294967296
 }
 
 // Writes a row, given as the part of the table that starts with it, unless the signal is ignored.

@@ -5,8 +5,8 @@ ghost use mathlib.Core.Path.{_≡_};
 ghost use Rattle.commands.specs.View.{answered, areas, Good, stateOf};
 ghost use Rattle.machine.specs.Machine.{answerTo, partOf};
 ghost use Rattle.machine.specs.State.{freshState};
-use commands::Answered;
-use commands::Kernel;
+pub use commands::Answered;
+pub use commands::Kernel;
 use reply::refusals::FORM;
 
 pub fn fresh() -> Kernel

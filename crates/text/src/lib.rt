@@ -1,27 +1,28 @@
 // A line of text, put together piece by piece and written by one call.
 ghost use Prim.Native.Nat.{_≤_};
+ghost use Rattle.io.specs.Counts.{Counts};
 
 // The first n bytes of text. What no longer fits is left out.
 pub struct Line {
     pub n: usize,
-    pub text: [u8; 128],
+    pub text: [u8; 192],
 }
 
 pub fn empty() -> Line
-    ensures { λ r. ⌜ r .n ≤ 128 ⌝ }
+    ensures { λ r. ⌜ r .n ≤ 192 ⌝ }
 {
     Line {
         n: 0,
-        text: [0; 128],
+        text: [0; 192],
     }
 }
 
 fn with_byte(line: Line, byte: u8) -> Line
-    requires { ⌜ line .n ≤ 128 ⌝ }
-    ensures { λ r. ⌜ r .n ≤ 128 ⌝ }
+    requires { ⌜ line .n ≤ 192 ⌝ }
+    ensures { λ r. ⌜ r .n ≤ 192 ⌝ }
 {
     let at = line.n;
-    if 128 <= at {
+    if 192 <= at {
         return line;
     }
     let mut longer = line;
@@ -31,8 +32,8 @@ fn with_byte(line: Line, byte: u8) -> Line
 }
 
 pub fn with_bytes(line: Line, bytes: &[u8]) -> Line
-    requires { ⌜ line .n ≤ 128 ⌝ }
-    ensures { λ r. ⌜ r .n ≤ 128 ⌝ }
+    requires { ⌜ line .n ≤ 192 ⌝ }
+    ensures { λ r. ⌜ r .n ≤ 192 ⌝ }
 {
     let mut longer = line;
     let mut i: usize = 0;
@@ -45,8 +46,8 @@ pub fn with_bytes(line: Line, bytes: &[u8]) -> Line
 
 // The number in decimal.
 pub fn with_number(line: Line, number: u64) -> Line
-    requires { ⌜ line .n ≤ 128 ⌝ }
-    ensures { λ r. ⌜ r .n ≤ 128 ⌝ }
+    requires { ⌜ line .n ≤ 192 ⌝ }
+    ensures { λ r. ⌜ r .n ≤ 192 ⌝ }
 {
     let mut digits = [0u8; 20];
     let count = io::decimal(number, &mut digits);
@@ -62,8 +63,8 @@ pub fn wide(byte: u8) -> u64
 
 // The bytes in decimal, each after a space.
 pub fn with_list(line: Line, bytes: &[u8]) -> Line
-    requires { ⌜ line .n ≤ 128 ⌝ }
-    ensures { λ r. ⌜ r .n ≤ 128 ⌝ }
+    requires { ⌜ line .n ≤ 192 ⌝ }
+    ensures { λ r. ⌜ r .n ≤ 192 ⌝ }
 {
     let mut longer = line;
     let mut i: usize = 0;
@@ -74,9 +75,44 @@ pub fn with_list(line: Line, bytes: &[u8]) -> Line
     longer
 }
 
+// How many bytes there are without the zeros at the end; the first is always told.
+fn told(bytes: &[u8]) -> usize
+    ensures { λ r. ⌜ Counts r (now (bytes .entry)) ⌝ }
+{
+    let mut n = bytes.len();
+    while 1 < n && bytes[n - 1] == 0 {
+        n -= 1;
+    }
+    n
+}
+
+// The bytes of a reply but for the zeros at its end, each after a space.
+pub fn with_reply(line: Line, reply: &[u8]) -> Line
+    requires { ⌜ line .n ≤ 192 ⌝ }
+    ensures { λ r. ⌜ r .n ≤ 192 ⌝ }
+{
+    let n = told(reply);
+    with_list(line, &reply[..n])
+}
+
+// The sum of each byte times its place, counted from 1, modulo 2 to the 32: a number by which a line tells an area.
+// Going down, every place adds all bytes from there on, so a byte is added once for each place up to its own: no
+// product can overflow.
+pub fn sum_of(bytes: &[u8]) -> u64 {
+    let mut from_here: u64 = 0;
+    let mut sum: u64 = 0;
+    let mut i = bytes.len();
+    while 0 < i {
+        i -= 1;
+        from_here = std::num::wrapping_add_u64(from_here, wide(bytes[i]));
+        sum = std::num::wrapping_add_u64(sum, from_here);
+    }
+    sum % 4294967296
+}
+
 // Writes the line and its end to standard output.
 pub fn write(line: Line)
-    requires { ⌜ line .n ≤ 128 ⌝ }
+    requires { ⌜ line .n ≤ 192 ⌝ }
 {
     let ended = with_byte(line, b'\n');
     let text = ended.text;

@@ -1,7 +1,8 @@
 //! Writes random traces, and what the model answers to them.
 
+use model::harness::traces::areas::Calls;
 use model::harness::traces::coverage::Coverage;
-use model::harness::traces::{areas, show, Trace};
+use model::harness::traces::{show, Trace};
 use model::kernel::numbers::REPLY_BYTES;
 use model::kernel::replay::{replay, Charts};
 use std::fs;
@@ -10,7 +11,8 @@ use std::path::{Path, PathBuf};
 use std::process::ExitCode;
 
 const USAGE: &str = "usage: traces write SEED COMMANDS DIR | replay DIR | show < REPLIES
-     | coverage FIRST_SEED COUNT COMMANDS | areas SEED COUNT";
+     | coverage FIRST_SEED COUNT COMMANDS | areas SEED COUNT CRATE
+     | vectors CRATE SEED:COMMANDS..";
 
 enum Request {
     Write {
@@ -30,6 +32,12 @@ enum Request {
     Areas {
         seed: u64,
         count: usize,
+        program: PathBuf,
+    },
+    Vectors {
+        program: PathBuf,
+        /// The seed and the number of commands of each trace.
+        traces: Vec<(u64, usize)>,
     },
 }
 
@@ -65,12 +73,25 @@ fn read_request(words: &[&str]) -> Option<Request> {
             count: count.parse().ok()?,
             commands: commands.parse().ok()?,
         },
-        ["areas", seed, count] => Request::Areas {
+        ["areas", seed, count, program] => Request::Areas {
             seed: seed.parse().ok()?,
             count: count.parse().ok()?,
+            program: PathBuf::from(program),
+        },
+        ["vectors", program, traces @ ..] => Request::Vectors {
+            program: PathBuf::from(program),
+            traces: traces
+                .iter()
+                .map(|word| read_pair(word))
+                .collect::<Option<_>>()?,
         },
         _ => return None,
     })
+}
+
+fn read_pair(word: &str) -> Option<(u64, usize)> {
+    let (seed, commands) = word.split_once(':')?;
+    Some((seed.parse().ok()?, commands.parse().ok()?))
 }
 
 fn answer(request: &Request) -> io::Result<()> {
@@ -97,9 +118,41 @@ fn answer(request: &Request) -> io::Result<()> {
             count,
             commands,
         } => Coverage::of_traces(*first_seed, *count, *commands).write(&mut out)?,
-        Request::Areas { seed, count } => areas::write_calls(&mut out, *seed, *count)?,
+        Request::Areas {
+            seed,
+            count,
+            program,
+        } => {
+            let calls = Calls::random(*seed, *count);
+            write_run(program, &calls.input, calls.lines.as_bytes())?;
+        }
+        Request::Vectors { program, traces } => write_vectors(program, traces)?,
     }
     out.flush()
+}
+
+/// What the crate of a program is run on, and what it must write.
+fn write_run(program: &Path, input: &[u8], output: &[u8]) -> io::Result<()> {
+    fs::write(program.join("stdin"), input)?;
+    fs::write(program.join("stdout"), output)
+}
+
+/// The traces of the program `vectors`: for each the letter of its folder of charts, its length, and
+/// its records.
+fn write_vectors(program: &Path, traces: &[(u64, usize)]) -> io::Result<()> {
+    let mut input = Vec::new();
+    let mut output = Vec::new();
+    for (folder, &(seed, commands)) in (b'a'..=b'z').zip(traces) {
+        let trace = Trace::random(seed, commands);
+        let length = u16::try_from(trace.records.len()).map_err(io::Error::other)?;
+        input.push(folder);
+        input.extend(length.to_le_bytes());
+        input.extend(&trace.records);
+        output.extend(&trace.replies);
+        let folder = char::from(folder).to_string();
+        write_charts(&trace.charts, &program.join("data").join(folder))?;
+    }
+    write_run(program, &input, &output)
 }
 
 /// An empty chart becomes a missing file.
@@ -107,7 +160,12 @@ fn write_trace(trace: &Trace, directory: &Path) -> io::Result<()> {
     fs::create_dir_all(directory)?;
     fs::write(directory.join("trace"), &trace.records)?;
     fs::write(directory.join("replies"), &trace.replies)?;
-    for (number, chart) in trace.charts.iter().enumerate() {
+    write_charts(&trace.charts, directory)
+}
+
+fn write_charts(charts: &Charts, directory: &Path) -> io::Result<()> {
+    fs::create_dir_all(directory)?;
+    for (number, chart) in charts.iter().enumerate() {
         let path = chart_path(directory, number);
         match chart.is_empty() {
             // One of another trace may be left there.

@@ -1,4 +1,4 @@
--- The line keeps within its 128 bytes; the measure is what is left of the bytes.
+-- The line keeps within its 192 bytes; the measure is what is left of the bytes.
 use Prim.Native.Nat.{_≤_, _-_}
 use lib.ListN.{length}
 use borrow.Author.Needs.{needs}
@@ -6,7 +6,7 @@ use Rattle.text.proofs.with_bytes.Statement.{statement}
 use Rattle.text.proofs.with_bytes.Tie as tie
 
 abbrev Inv-loop : tie.InvT-loop
-Inv-loop bytes longer₀ i₀ longer i = longer .n ≤ 128
+Inv-loop bytes longer₀ i₀ longer i = longer .n ≤ 192
 
 abbrev μ-loop : tie.MeasureT-loop
 μ-loop bytes longer₀ i₀ longer i = length bytes - i

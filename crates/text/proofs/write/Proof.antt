@@ -1,4 +1,4 @@
--- The line with its end keeps within its 128 bytes, so its first n are there to be written.
+-- The line with its end keeps within its 192 bytes, so its first n are there to be written.
 use mathlib.Core.Path.{_≡_, sym}
 use native.Mathlib.Omega.{arith}
 use lib.ListN.{length}
@@ -9,7 +9,7 @@ use Rattle.text.proofs.write.Tie as tie
 
 array-share-prefix-text : tie.Need-array-share-prefix-text
 array-share-prefix-text c =
-    let long : length (c .before .with-byte .result .text) ≡ 128 = search needs in
+    let long : length (c .before .with-byte .result .text) ≡ 192 = search needs in
     omega arith
 
 slice-aggregate-write-all : tie.Need-slice-aggregate-write-all

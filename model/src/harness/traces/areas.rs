@@ -1,32 +1,17 @@
 //! Calls with areas of other lengths, and with tables that others write to.
 //!
-//! They are written as text for a test program in any language:
-//!
-//! - `fresh`: a kernel from a fresh start. There are three kept areas of zeros,
-//!   each one byte longer than its right length: 1,537, 64,609 and 6,121 bytes.
-//! - `chart N HEX`: chart N from now on; four such lines follow each `fresh`, and
-//!   more may stand between calls.
-//! - `call RECORD PAYLOADS TABLES LOG POKE REPLY SUM SUM SUM PART PARTSUM`: one command.
-//!   RECORD is the record in hex, of any length. PAYLOADS, TABLES and LOG say how
-//!   many first bytes of each kept area are lent. POKE is `-`, or `OFFSET:BYTE`:
-//!   before the call, that byte is written to the kept tables. A record that begins
-//!   with 1 and n, n below 4, comes with chart n, any other with an empty chart.
-//!   Expected are REPLY, in hex; the sum of each whole kept area, in the order
-//!   payloads, tables, log; and the length and the sum of the part that READ hands
-//!   back, both 0 if it is empty or the command is no READ.
-//!
-//! Hex has two digits for each byte and is `-` for none; all other numbers are
-//! decimal. A sum is that of (index + 1) times byte, modulo 2 to the 32.
+//! They are those of the program `areas`, which keeps three areas, each one byte longer than its
+//! right length, and lends so many first bytes of each as a call says. The program's own text tells
+//! how a call is written for it to read, and what its line for a call has.
 
 use super::super::random::Xorshift;
-use super::super::report::table_sum;
+use super::super::report::{spaced, table_sum};
 use super::pick::Picker;
 use super::{random_chart, random_charts};
 use crate::chart::{FIRST_SIGNAL, LAST_SIGNAL, MOST_ACTIONS, ROW_BYTES, SLOT_BYTES};
 use crate::kernel::numbers::*;
 use crate::kernel::replay::{chart_for, Charts};
 use crate::kernel::Kernel;
-use std::io::{self, Write};
 
 /// Pokes may spoil a run for good, so each has an end.
 const CALLS_PER_RUN: usize = 250;
@@ -196,34 +181,39 @@ fn random_row(random: &mut Xorshift, bench: &Bench) -> usize {
     }
 }
 
-/// So many calls, in runs that begin with a fresh start.
-pub fn write_calls(out: &mut impl Write, seed: u64, count: usize) -> io::Result<()> {
-    let mut random = Xorshift::new(seed);
-    let mut left = count;
-    while left > 0 {
-        let calls = left.min(CALLS_PER_RUN);
-        write_run(out, &mut random, calls)?;
-        left -= calls;
-    }
-    Ok(())
+/// What the program reads, and what it must write.
+#[derive(Default)]
+pub struct Calls {
+    pub input: Vec<u8>,
+    pub lines: String,
 }
 
-fn write_run(out: &mut impl Write, random: &mut Xorshift, calls: usize) -> io::Result<()> {
-    let (mut bench, mut caller) = fresh_run(random);
-    writeln!(out, "fresh")?;
-    for (number, chart) in bench.charts.iter().enumerate() {
-        write_chart(out, number, chart)?;
-    }
-    for _ in 0..calls {
-        if let Some((number, chart)) = caller.new_chart() {
-            write_chart(out, number, &chart)?;
-            bench.charts[number] = chart;
+impl Calls {
+    /// So many calls, in runs that begin with a fresh start.
+    pub fn random(seed: u64, count: usize) -> Self {
+        let mut random = Xorshift::new(seed);
+        let mut calls = Calls::default();
+        let mut left = count;
+        while left > 0 {
+            let run = left.min(CALLS_PER_RUN);
+            calls.add_run(&mut random, run);
+            left -= run;
         }
-        let call = caller.call(&bench);
-        let reply = bench.answer(&call);
-        write_call(out, &call, &reply, &bench)?;
+        calls
     }
-    Ok(())
+
+    fn add_run(&mut self, random: &mut Xorshift, count: usize) {
+        let (mut bench, mut caller) = fresh_run(random);
+        for number in 0..count {
+            if let Some((number, chart)) = caller.new_chart() {
+                bench.charts[number] = chart;
+            }
+            let call = caller.call(&bench);
+            self.input.extend(sent(&call, number == 0, &bench.charts));
+            let reply = bench.answer(&call);
+            self.lines += &line(&call, &reply, &bench);
+        }
+    }
 }
 
 fn fresh_run(random: &mut Xorshift) -> (Bench, Caller) {
@@ -236,35 +226,51 @@ fn fresh_run(random: &mut Xorshift) -> (Bench, Caller) {
     (Bench::fresh(charts), caller)
 }
 
-fn write_chart(out: &mut impl Write, number: usize, chart: &[u8]) -> io::Result<()> {
-    writeln!(out, "chart {number} {}", hex(chart))
+/// A call as the program reads it: the head, the record up to its last byte that is not 0, the chart.
+fn sent(call: &Call, is_fresh: bool, charts: &Charts) -> Vec<u8> {
+    let chart = chart_for(&call.record, charts);
+    let given = without_zeros(&call.record);
+    let byte = |length: usize| u8::try_from(length).expect("a record is short");
+    let two = |number: usize| {
+        u16::try_from(number)
+            .expect("two bytes hold it")
+            .to_le_bytes()
+    };
+    let poke = call.poke.unwrap_or(Poke { offset: 0, byte: 0 });
+    let mut sent = vec![
+        u8::from(is_fresh),
+        byte(call.record.len()),
+        byte(given.len()),
+    ];
+    sent.extend(call.lengths.map(two).concat());
+    sent.push(u8::from(call.poke.is_some()));
+    sent.extend(two(poke.offset));
+    sent.push(poke.byte);
+    sent.extend(two(chart.len()));
+    sent.extend(given);
+    sent.extend(chart);
+    sent
 }
 
-/// The bench is that after the call.
-fn write_call(out: &mut impl Write, call: &Call, reply: &[u8], bench: &Bench) -> io::Result<()> {
-    let [payloads, tables, log] = call.lengths;
-    let poke = match call.poke {
-        Some(Poke { offset, byte }) => format!("{offset}:{byte}"),
-        None => String::from("-"),
-    };
+/// The line of a call. The bench is that after it.
+fn line(call: &Call, reply: &[u8], bench: &Bench) -> String {
+    let told = without_zeros(reply);
+    let told = &reply[..told.len().max(1)];
     let areas = [&bench.payloads, &bench.tables, &bench.log];
-    let [payloads_sum, tables_sum, log_sum] = areas.map(|area| table_sum(area));
-    let part = &bench.payloads[bench.kernel.read_part(&call.record, payloads)];
-    writeln!(
-        out,
-        "call {} {payloads} {tables} {log} {poke} {} {payloads_sum} {tables_sum} {log_sum} {} {}",
-        hex(&call.record),
-        hex(reply),
+    let [payloads, tables, log] = areas.map(|area| table_sum(area));
+    let part = &bench.payloads[bench.kernel.read_part(&call.record, call.lengths[0])];
+    format!(
+        "{} payloads {payloads} tables {tables} log {log} part {} sum {}\n",
+        spaced(told),
         part.len(),
         table_sum(part),
     )
 }
 
-fn hex(bytes: &[u8]) -> String {
-    if bytes.is_empty() {
-        return String::from("-");
-    }
-    bytes.iter().map(|byte| format!("{byte:02x}")).collect()
+/// The bytes up to the last that is not 0.
+fn without_zeros(bytes: &[u8]) -> &[u8] {
+    let last = bytes.iter().rposition(|&byte| byte != 0);
+    &bytes[..last.map_or(0, |last| last + 1)]
 }
 
 #[cfg(test)]
@@ -273,53 +279,54 @@ mod tests {
     use super::*;
     use crate::kernel::reply::Refusal;
 
-    fn unhex(text: &str) -> Vec<u8> {
-        let digits = text.trim_start_matches('-').as_bytes().chunks(2);
-        let byte = |pair| u8::from_str_radix(std::str::from_utf8(pair).unwrap(), 16).unwrap();
-        digits.map(byte).collect()
+    /// So many bytes from the front.
+    fn take<'a>(input: &mut &'a [u8], count: usize) -> &'a [u8] {
+        let (taken, rest) = input.split_at(count);
+        *input = rest;
+        taken
     }
 
-    fn read_poke(text: &str) -> Option<Poke> {
-        let (offset, byte) = text.split_once(':')?;
-        Some(Poke {
-            offset: offset.parse().unwrap(),
-            byte: byte.parse().unwrap(),
-        })
+    /// The call at the front of an input, whether it is a fresh start, and its chart.
+    fn take_call<'a>(input: &mut &'a [u8]) -> (Call, bool, &'a [u8]) {
+        let head = take(input, 15);
+        let two = |at: usize| usize::from(u16::from_le_bytes([head[at], head[at + 1]]));
+        let mut record = vec![0; usize::from(head[1])];
+        let given = take(input, usize::from(head[2]));
+        record[..given.len()].copy_from_slice(given);
+        let poke = Poke {
+            offset: two(10),
+            byte: head[12],
+        };
+        let call = Call {
+            record,
+            lengths: [two(3), two(5), two(7)],
+            poke: (head[9] == 1).then_some(poke),
+        };
+        (call, head[0] == 1, take(input, two(13)))
     }
 
-    /// The lines alone are enough to run the calls again.
+    /// The input alone is enough to make the calls again.
     #[test]
-    fn the_lines_can_be_replayed() {
+    fn the_calls_can_be_made_again() {
         // A little more than one run.
         const CALLS: usize = CALLS_PER_RUN + 20;
-        let mut text = Vec::new();
-        write_calls(&mut text, 5, CALLS).unwrap();
-        let text = String::from_utf8(text).unwrap();
+        let calls = Calls::random(5, CALLS);
+        let mut input = calls.input.as_slice();
         let mut bench = Bench::fresh(Charts::default());
-        let mut calls = 0;
-        for line in text.lines() {
-            let words: Vec<&str> = line.split(' ').collect();
-            match words[..] {
-                ["fresh"] => bench = Bench::fresh(Charts::default()),
-                ["chart", number, chart] => {
-                    bench.charts[number.parse::<usize>().unwrap()] = unhex(chart);
-                }
-                ["call", record, payloads, tables, log, poke, ..] => {
-                    let call = Call {
-                        record: unhex(record),
-                        lengths: [payloads, tables, log].map(|length| length.parse().unwrap()),
-                        poke: read_poke(poke),
-                    };
-                    let reply = bench.answer(&call);
-                    let mut again = Vec::new();
-                    write_call(&mut again, &call, &reply, &bench).unwrap();
-                    assert_eq!(again, format!("{line}\n").into_bytes());
-                    calls += 1;
-                }
-                _ => panic!("no such line: {line}"),
+        let mut lines = String::new();
+        while !input.is_empty() {
+            let (call, is_fresh, chart) = take_call(&mut input);
+            if is_fresh {
+                bench = Bench::fresh(Charts::default());
             }
+            if let [1, slot @ 0..=3, ..] = call.record[..] {
+                bench.charts[usize::from(slot)] = chart.to_vec();
+            }
+            let reply = bench.answer(&call);
+            lines += &line(&call, &reply, &bench);
         }
-        assert_eq!(calls, CALLS);
+        assert_eq!(lines, calls.lines);
+        assert_eq!(lines.lines().count(), CALLS);
     }
 
     #[test]

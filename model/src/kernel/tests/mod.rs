@@ -6,6 +6,7 @@ mod mail;
 mod pools;
 mod refusals;
 mod timers;
+mod written;
 
 use super::command::{Command, Handle};
 use super::numbers::*;

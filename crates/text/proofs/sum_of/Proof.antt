@@ -1,15 +1,15 @@
--- The place keeps within the slot, and is itself the measure.
+-- The place keeps within the bytes, and is itself the measure.
 use Prim.Native.Nat.{_≤_}
 use lib.ListN.{length}
 use borrow.Author.Needs.{needs}
-use Rattle.chart_cases.proofs.sum_of.Statement.{statement}
-use Rattle.chart_cases.proofs.sum_of.Tie as tie
+use Rattle.text.proofs.sum_of.Statement.{statement}
+use Rattle.text.proofs.sum_of.Tie as tie
 
 abbrev Inv-loop : tie.InvT-loop
-Inv-loop slot from-here₀ sum₀ i₀ from-here sum i = i ≤ length slot
+Inv-loop bytes from-here₀ sum₀ i₀ from-here sum i = i ≤ length bytes
 
 abbrev μ-loop : tie.MeasureT-loop
-μ-loop slot from-here₀ sum₀ i₀ from-here sum i = i
+μ-loop bytes from-here₀ sum₀ i₀ from-here sum i = i
 
 pub sum-of-spec : {M : Type 1} → statement M
 sum-of-spec =

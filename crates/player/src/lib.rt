@@ -1,0 +1,162 @@
+// Plays a trace: takes it in piece by piece, finds the chart of a LOAD in its file, and has the kernel answer.
+ghost use Prim.Native.Nat.{_<_, _≤_};
+ghost use Rattle.io.specs.Counts.{Counts};
+ghost use Rattle.commands.specs.View.{Good};
+use kernel::Answered;
+use kernel::Kernel;
+
+pub const RECORD_BYTES: usize = 72;
+
+pub const PAYLOADS_BYTES: usize = 1536;
+
+pub const TABLES_BYTES: usize = 64608;
+
+pub const LOG_BYTES: usize = 6120;
+
+// One byte more than a chart may have, so that a longer file is handed on as a chart that is too long.
+const CHART_BYTES: usize = 5577;
+
+// The folder in which a program is started, by a letter as every folder of charts.
+pub const HERE: u8 = b'.';
+
+const LOAD: u8 = 1;
+
+const SLOTS: u8 = 4;
+
+// Reads the file of a slot's chart, and answers how many bytes it has. A file that is missing has none.
+fn read_chart(folder: u8, slot: u8, chart: &mut [u8]) -> usize
+    requires { ⌜ slot < 4 ⌝ }
+    ensures { λ r. ⌜ Counts r (now (chart .exit)) ⌝ }
+{
+    let path = [folder, b'/', b'c', b'h', b'a', b'r', b't', b'0' + slot];
+    let file = os::open_read(&path);
+    if file < 0 {
+        return 0;
+    }
+    let n = io::read_full(file, chart);
+    libc::close(file);
+    n
+}
+
+// The answer to a LOAD, with its chart.
+fn answer_load(
+    k: Kernel,
+    record: &[u8],
+    slot: u8,
+    folder: u8,
+    payloads: &mut [u8],
+    tables: &mut [u8],
+    log: &mut [u8],
+) -> Answered
+    requires { ⌜ Good k ⌝ }
+    requires { ⌜ slot < 4 ⌝ }
+    ensures { λ r. ⌜ Good (r .kernel) ⌝ }
+{
+    let mut chart = [0u8; CHART_BYTES];
+    let n = read_chart(folder, slot, &mut chart);
+    kernel::command(k, record, &chart[..n], payloads, tables, log)
+}
+
+// The answer to a record of any length. No file is read but for a LOAD of a slot that there is.
+pub fn answer(
+    k: Kernel,
+    record: &[u8],
+    folder: u8,
+    payloads: &mut [u8],
+    tables: &mut [u8],
+    log: &mut [u8],
+) -> Answered
+    requires { ⌜ Good k ⌝ }
+    ensures { λ r. ⌜ Good (r .kernel) ⌝ }
+{
+    if record.len() == RECORD_BYTES {
+        let slot = record[1];
+        if record[0] == LOAD && slot < SLOTS {
+            return answer_load(k, record, slot, folder, payloads, tables, log);
+        }
+    }
+    kernel::command(k, record, &record[..0], payloads, tables, log)
+}
+
+// A piece of the trace: the first n bytes, a record of them unless the trace ends before. None at its end.
+struct Piece {
+    n: usize,
+    bytes: [u8; RECORD_BYTES],
+}
+
+fn at_most_a_record(left: u64) -> usize
+    ensures { λ r. ⌜ (r ≤ 72) × (r ≤ left) ⌝ }
+{
+    if left < 72 {
+        left as usize
+    } else {
+        RECORD_BYTES
+    }
+}
+
+// The next piece of a trace of which so many bytes may be left.
+fn read_piece(left: u64) -> Piece
+    ensures { λ r. ⌜ Counts (r .n) (r .bytes) ⌝ }
+    ensures { λ r. ⌜ r .n ≤ left ⌝ }
+{
+    let mut bytes = [0u8; RECORD_BYTES];
+    let most = at_most_a_record(left);
+    let n = io::read_full(libc::STDIN_FILENO, &mut bytes[..most]);
+    Piece { n, bytes }
+}
+
+// A trace in play: its kernel, and how many bytes of it may be left; 0 once it has ended.
+struct Run {
+    kernel: Kernel,
+    left: u64,
+}
+
+// Reads a piece, has it answered, and writes the reply. The run ends with the input, or where a reply cannot be written.
+fn turn(run: Run, folder: u8, payloads: &mut [u8], tables: &mut [u8], log: &mut [u8]) -> Run
+    requires { ⌜ Good (run .kernel) ⌝ }
+    requires { ⌜ 0 < run .left ⌝ }
+    ensures { λ r. ⌜ Good (r .kernel) ⌝ }
+    ensures { λ r. ⌜ r .left < run .left ⌝ }
+{
+    let k = run.kernel;
+    let left = run.left;
+    let piece = read_piece(left);
+    let n = piece.n;
+    if n == 0 {
+        return Run { kernel: k, left: 0 };
+    }
+    let bytes = piece.bytes;
+    let answered = answer(k, &bytes[..n], folder, payloads, tables, log);
+    let next = answered.kernel;
+    let reply = answered.reply;
+    if !io::write_all(libc::STDOUT_FILENO, &reply) {
+        os::fail(b"a reply");
+        return Run {
+            kernel: next,
+            left: 0,
+        };
+    }
+    Run {
+        kernel: next,
+        left: left - n as u64,
+    }
+}
+
+// A proved loop has to end, and nothing says that the input does: so what may be left of the trace falls.
+fn play_on(most: u64, folder: u8, payloads: &mut [u8], tables: &mut [u8], log: &mut [u8]) {
+    let mut run = Run {
+        kernel: kernel::fresh(),
+        left: most,
+    };
+    while 0 < run.left {
+        run = turn(run, folder, payloads, tables, log);
+    }
+}
+
+// Plays a trace of standard input from a fresh start, at most so many bytes, with the charts of a folder.
+pub fn play(most: u64, folder: u8) {
+    let mut payloads = [0u8; PAYLOADS_BYTES];
+    let mut tables = [0u8; TABLES_BYTES];
+    let mut log = [0u8; LOG_BYTES];
+    play_on(most, folder, &mut payloads, &mut tables, &mut log);
+}

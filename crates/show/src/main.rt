@@ -1,0 +1,171 @@
+// Writes a line for each reply record of standard input.
+//
+// First the answer's name, then as much of this as the reply has:
+//     object 9  transition  signal 6    the object, the outcome, and the signal (START has none)
+//     event 32 1                        NEXT: the event's block and generation; or the number of the timer
+//     values 5 0                        any other command that was done: its two values
+//     class 2                           CHART: the class of the fault
+//     count 4  actions 22 26 31 41      the count and the actions; for READ bytes of the payload
+// What is no reply of the kernel is told as such: a number above 15, and a last piece that is shorter than a record.
+ghost use Prim.Native.Nat.{_≤_};
+use text::Line;
+use text::wide;
+use text::with_bytes;
+use text::with_number;
+
+const REPLY_BYTES: usize = 24;
+
+const DONE: u8 = 0;
+
+const CHART: u8 = 14;
+
+// An event that came from timer t has the block number 128 + t.
+const FIRST_TIMER: u8 = 128;
+
+fn with_item(line: Line, name: &[u8], number: u8) -> Line
+    requires { ⌜ line .n ≤ 192 ⌝ }
+    ensures { λ r. ⌜ r .n ≤ 192 ⌝ }
+{
+    with_number(with_bytes(line, name), wide(number))
+}
+
+fn answer_line(number: u8) -> Line
+    ensures { λ r. ⌜ r .n ≤ 192 ⌝ }
+{
+    let line = text::empty();
+    match number {
+        0 => with_bytes(line, b"DONE"),
+        1 => with_bytes(line, b"FORM"),
+        2 => with_bytes(line, b"AREA"),
+        3 => with_bytes(line, b"RANGE"),
+        4 => with_bytes(line, b"BUSY"),
+        5 => with_bytes(line, b"NOSTEP"),
+        6 => with_bytes(line, b"IDLE"),
+        7 => with_bytes(line, b"STALE"),
+        8 => with_bytes(line, b"ABSENT"),
+        9 => with_bytes(line, b"TAKEN"),
+        10 => with_bytes(line, b"FULL"),
+        11 => with_bytes(line, b"DRY"),
+        12 => with_bytes(line, b"HOLDS"),
+        13 => with_bytes(line, b"INUSE"),
+        14 => with_bytes(line, b"CHART"),
+        15 => with_bytes(line, b"TABLE"),
+        _ => with_item(line, b"unknown answer ", number),
+    }
+}
+
+fn with_outcome(line: Line, outcome: u8) -> Line
+    requires { ⌜ line .n ≤ 192 ⌝ }
+    ensures { λ r. ⌜ r .n ≤ 192 ⌝ }
+{
+    match outcome {
+        0 => with_bytes(line, b"  ignored"),
+        1 => with_bytes(line, b"  internal"),
+        2 => with_bytes(line, b"  transition"),
+        _ => with_item(line, b"  outcome ", outcome),
+    }
+}
+
+// What START and NEXT tell of the object.
+fn with_step(line: Line, object: u8, outcome: u8, signal: u8) -> Line
+    requires { ⌜ line .n ≤ 192 ⌝ }
+    ensures { λ r. ⌜ r .n ≤ 192 ⌝ }
+{
+    let moved = with_outcome(with_item(line, b"  object ", object), outcome);
+    if signal == 0 {
+        return moved;
+    }
+    with_item(moved, b"  signal ", signal)
+}
+
+fn with_event(line: Line, block: u8, generation: u8) -> Line
+    requires { ⌜ line .n ≤ 192 ⌝ }
+    ensures { λ r. ⌜ r .n ≤ 192 ⌝ }
+{
+    if FIRST_TIMER <= block {
+        return with_item(line, b"  timer ", block - FIRST_TIMER);
+    }
+    with_item(with_item(line, b"  event ", block), b" ", generation)
+}
+
+fn with_values(line: Line, number: u8, first: u8, second: u8) -> Line
+    requires { ⌜ line .n ≤ 192 ⌝ }
+    ensures { λ r. ⌜ r .n ≤ 192 ⌝ }
+{
+    if number == CHART {
+        return with_item(line, b"  class ", first);
+    }
+    if number == DONE || first != 0 || second != 0 {
+        return with_item(with_item(line, b"  values ", first), b" ", second);
+    }
+    line
+}
+
+// The count, what it counts, and as many of these as there can be.
+fn with_counted(line: Line, count: u8, name: &[u8], counted: &[u8]) -> Line
+    requires { ⌜ line .n ≤ 192 ⌝ }
+    ensures { λ r. ⌜ r .n ≤ 192 ⌝ }
+{
+    if count == 0 {
+        return line;
+    }
+    let shown = io::count(count as isize, counted);
+    text::with_list(
+        with_bytes(with_item(line, b"  count ", count), name),
+        &counted[..shown],
+    )
+}
+
+fn reply_line(reply: [u8; REPLY_BYTES]) -> Line
+    ensures { λ r. ⌜ r .n ≤ 192 ⌝ }
+{
+    let line = answer_line(reply[0]);
+    let object = reply[1];
+    let step = reply[2];
+    if object == 0 && step == 0 {
+        let told = with_values(line, reply[0], reply[4], reply[5]);
+        return with_counted(told, reply[3], b"  bytes", &reply[6..]);
+    }
+    let signal = step % 32;
+    let told = with_step(line, object, step / 32, signal);
+    if signal == 0 {
+        return with_counted(told, reply[3], b"  actions", &reply[6..]);
+    }
+    with_counted(
+        with_event(told, reply[4], reply[5]),
+        reply[3],
+        b"  actions",
+        &reply[6..],
+    )
+}
+
+fn short_line(n: usize) -> Line
+    ensures { λ r. ⌜ r .n ≤ 192 ⌝ }
+{
+    with_bytes(
+        with_number(with_bytes(text::empty(), b"no reply, only "), n as u64),
+        b" bytes",
+    )
+}
+
+// Writes the line of the next reply, and answers whether there may be another.
+fn show_next() -> bool {
+    let mut reply = [0u8; REPLY_BYTES];
+    let n = io::read_full(libc::STDIN_FILENO, &mut reply);
+    if n == REPLY_BYTES {
+        text::write(reply_line(reply));
+        return true;
+    }
+    if 0 < n {
+        text::write(short_line(n));
+    }
+    false
+}
+
+// A proved loop has to end, and nothing says that the input does: so the turns are counted down.
+fn main() {
+    let mut turns = u64::MAX;
+    while turns > 0 && show_next() {
+        turns -= 1;
+    }
+}

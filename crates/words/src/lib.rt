@@ -1,0 +1,344 @@
+// Records written in words, read a letter at a time.
+//
+// A line is a name and numbers, with spaces between them; what stands behind `#` or `=` is left out.
+// The name gives the record's first byte, and each number is the next byte:
+//     LOAD 0 · START 9 0 1 · POST 0 0 9 2     a command record of 72 bytes; the bytes that are not given are 0
+//     NEW 6 3 7 8 9                           signal, size; then the payload's bytes
+//     ARM 0 9 6 500 0                         timer, object, signal; then ticks and interval, two bytes each
+//     TOP 1 10 · STATE 0 11 12 2 13 · ROW 1 5 1 1 15     the records of a chart, of 8 bytes
+//     19 1 2                                  a number for a name: a command record of just these bytes, then 0
+//     PIECE 16 0                              as many bytes as are given
+ghost use Prim.Native.Nat.{_≤_};
+use check::same;
+use input::Letter;
+use text::Line;
+
+const RECORD_BYTES: usize = 72;
+
+const COMMAND_RECORD: u8 = 72;
+
+const CHART_RECORD: u8 = 8;
+
+const WORD_BYTES: usize = 12;
+
+// Where the payload of a command record begins.
+const PAYLOAD: usize = 8;
+
+// The number above all that are written.
+const TOO_LARGE: u32 = 65536;
+
+const NEW: u8 = 3;
+
+const ARM: u8 = 14;
+
+// What is no command has a number above theirs here.
+const TOP: u8 = 19;
+
+const STATE: u8 = 20;
+
+const ROW: u8 = 21;
+
+const PIECE: u8 = 22;
+
+pub const FRESH: u8 = 23;
+
+// A name or a number, as far as it was read.
+struct Word {
+    letters: u8,
+    text: [u8; WORD_BYTES],
+    number: u32,
+    is_number: bool,
+}
+
+// A record, as far as it was read: its first `size` bytes, and the place where the next number goes.
+pub struct Record {
+    pub size: u8,
+    pub bytes: [u8; RECORD_BYTES],
+    pub is_wrong: bool,
+    pub name: u8,
+    at: usize,
+}
+
+// A line, as far as it was read: its text up to `=`, and the record that it gives.
+pub struct Reading {
+    pub is_there: bool,
+    pub text: Line,
+    pub record: Record,
+    word: Word,
+    is_comment: bool,
+    is_answer: bool,
+    is_whole: bool,
+}
+
+fn no_word() -> Word {
+    Word {
+        letters: 0,
+        text: [0; WORD_BYTES],
+        number: 0,
+        is_number: true,
+    }
+}
+
+fn no_record() -> Record {
+    Record {
+        size: 0,
+        bytes: [0; RECORD_BYTES],
+        is_wrong: false,
+        name: 0,
+        at: 0,
+    }
+}
+
+fn no_line() -> Reading
+    ensures { λ r. ⌜ r .text .n ≤ 192 ⌝ }
+{
+    Reading {
+        is_there: false,
+        text: text::empty(),
+        record: no_record(),
+        word: no_word(),
+        is_comment: false,
+        is_answer: false,
+        is_whole: false,
+    }
+}
+
+// The number with one more digit.
+fn appended(number: u32, digit: u8) -> u32 {
+    if TOO_LARGE <= number {
+        return TOO_LARGE;
+    }
+    10 * number + digit as u32
+}
+
+fn with_letter(word: Word, letter: u8) -> Word {
+    let mut longer = word;
+    let at = word.letters as usize;
+    if WORD_BYTES <= at {
+        longer.is_number = false;
+        return longer;
+    }
+    longer.text[at] = letter;
+    longer.letters = word.letters + 1;
+    if letter < b'0' || b'9' < letter {
+        longer.is_number = false;
+        return longer;
+    }
+    longer.number = appended(word.number, letter - b'0');
+    longer
+}
+
+fn named(other: u8, word: &[u8], name: &[u8], number: u8) -> u8 {
+    if same(word, name) { number } else { other }
+}
+
+// The number of a name, 0 if there is no such name.
+fn number_of(word: &[u8]) -> u8 {
+    let n = named(0, word, b"LOAD", 1);
+    let n = named(n, word, b"START", 2);
+    let n = named(n, word, b"NEW", NEW);
+    let n = named(n, word, b"POST", 4);
+    let n = named(n, word, b"POSTFRONT", 5);
+    let n = named(n, word, b"PUBLISH", 6);
+    let n = named(n, word, b"SUBSCRIBE", 7);
+    let n = named(n, word, b"UNSUBSCRIBE", 8);
+    let n = named(n, word, b"HOLD", 9);
+    let n = named(n, word, b"RELEASE", 10);
+    let n = named(n, word, b"DROP", 11);
+    let n = named(n, word, b"NEXT", 12);
+    let n = named(n, word, b"END", 13);
+    let n = named(n, word, b"ARM", ARM);
+    let n = named(n, word, b"DISARM", 15);
+    let n = named(n, word, b"TICK", 16);
+    let n = named(n, word, b"READ", 17);
+    let n = named(n, word, b"DRAIN", 18);
+    let n = named(n, word, b"TOP", TOP);
+    let n = named(n, word, b"STATE", STATE);
+    let n = named(n, word, b"ROW", ROW);
+    let n = named(n, word, b"PIECE", PIECE);
+    named(n, word, b"FRESH", FRESH)
+}
+
+fn wrong(record: Record) -> Record {
+    let mut marked = record;
+    marked.is_wrong = true;
+    marked
+}
+
+// A record of which the first byte was read.
+fn begun(name: u8, first: u8, size: u8) -> Record {
+    let mut record = no_record();
+    record.name = name;
+    record.size = size;
+    record.bytes[0] = first;
+    record.at = 1;
+    record
+}
+
+// A record of which the name was read, and that has no bytes yet.
+fn bare(name: u8) -> Record {
+    let mut record = no_record();
+    record.name = name;
+    record
+}
+
+fn begin(word: Word) -> Record {
+    if word.is_number {
+        if 255 < word.number {
+            return wrong(no_record());
+        }
+        return begun(0, word.number as u8, COMMAND_RECORD);
+    }
+    let text = word.text;
+    let letters = io::count(word.letters as isize, &text);
+    let name = number_of(&text[..letters]);
+    match name {
+        0 => wrong(no_record()),
+        TOP => begun(name, 3, CHART_RECORD),
+        STATE => begun(name, 1, CHART_RECORD),
+        ROW => begun(name, 2, CHART_RECORD),
+        PIECE | FRESH => bare(name),
+        _ => begun(name, name, COMMAND_RECORD),
+    }
+}
+
+fn with_byte(record: Record, at: usize, byte: u8) -> Record {
+    if RECORD_BYTES <= at {
+        return wrong(record);
+    }
+    let mut longer = record;
+    if record.name == PIECE {
+        longer.size = (at + 1) as u8;
+    } else if record.size as usize <= at {
+        return wrong(record);
+    }
+    longer.bytes[at] = byte;
+    longer.at = at + 1;
+    longer
+}
+
+// Low byte first.
+fn with_two_bytes(record: Record, at: usize, number: u32) -> Record {
+    if TOO_LARGE <= number {
+        return wrong(record);
+    }
+    let low = with_byte(record, at, (number % 256) as u8);
+    with_byte(low, low.at, (number / 256) as u8)
+}
+
+// Puts the next number to its place. Only ARM's last two take two bytes.
+fn with_number(record: Record, number: u32) -> Record {
+    let at = if record.name == NEW && record.at == 3 {
+        PAYLOAD
+    } else {
+        record.at
+    };
+    if record.name == ARM && 4 <= at {
+        return with_two_bytes(record, at, number);
+    }
+    if 255 < number {
+        return wrong(record);
+    }
+    with_byte(record, at, number as u8)
+}
+
+fn with_word(record: Record, word: Word) -> Record {
+    if record.is_wrong {
+        return record;
+    }
+    if record.name == 0 && record.size == 0 {
+        return begin(word);
+    }
+    if word.is_number {
+        return with_number(record, word.number);
+    }
+    wrong(record)
+}
+
+// The line with its last word in the record.
+fn word_ended(line: Reading) -> Reading
+    requires { ⌜ line .text .n ≤ 192 ⌝ }
+    ensures { λ r. ⌜ r .text .n ≤ 192 ⌝ }
+{
+    let word = line.word;
+    if word.letters == 0 {
+        return line;
+    }
+    let record = line.record;
+    Reading {
+        record: with_word(record, word),
+        word: no_word(),
+        ..line
+    }
+}
+
+// The line with a letter more. What stands behind `=` is not kept.
+fn with(line: Reading, letter: u8) -> Reading
+    requires { ⌜ line .text .n ≤ 192 ⌝ }
+    ensures { λ r. ⌜ r .text .n ≤ 192 ⌝ }
+{
+    if line.is_answer {
+        return line;
+    }
+    let so_far = line.text;
+    let text = text::with_bytes(so_far, &[letter]);
+    let longer = Reading { text, ..line };
+    if line.is_comment {
+        return longer;
+    }
+    let word = line.word;
+    match letter {
+        b'#' => Reading {
+            is_comment: true,
+            ..word_ended(longer)
+        },
+        b'=' => Reading {
+            is_answer: true,
+            ..word_ended(longer)
+        },
+        b' ' | b'\t' | b'\r' => word_ended(longer),
+        _ => Reading {
+            word: with_letter(word, letter),
+            ..longer
+        },
+    }
+}
+
+// Reads a letter, and ends the line where that is its end, or the input's.
+fn read_on(line: Reading) -> Reading
+    requires { ⌜ line .text .n ≤ 192 ⌝ }
+    ensures { λ r. ⌜ r .text .n ≤ 192 ⌝ }
+{
+    match input::read_letter() {
+        Letter::End => Reading {
+            is_whole: true,
+            ..line
+        },
+        Letter::Byte(letter) => {
+            if letter == b'\n' {
+                return Reading {
+                    is_there: true,
+                    is_whole: true,
+                    ..line
+                };
+            }
+            Reading {
+                is_there: true,
+                ..with(line, letter)
+            }
+        }
+    }
+}
+
+// The next line of the input.
+pub fn read_line() -> Reading
+    ensures { λ r. ⌜ r .text .n ≤ 192 ⌝ }
+{
+    let mut line = no_line();
+    let mut turns = u64::MAX;
+    while turns > 0 && !line.is_whole {
+        line = read_on(line);
+        turns -= 1;
+    }
+    word_ended(line)
+}
