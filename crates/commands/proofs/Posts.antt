@@ -14,12 +14,11 @@ use Rattle.machine.specs.Numbers.{outside, noBlock, noObject, noMargin}
 use Rattle.machine.specs.Reply.{FORM, RANGE, STALE, ABSENT, FULL, lowest}
 use Rattle.machine.specs.State.{boxOf}
 use Rattle.mail.specs.Box.{boxAt}
-use Rattle.mail.specs.View.{Mail, boxes}
+use Rattle.mail.specs.View.{Mail, boxes, queued-in}
 use Rattle.pool.specs.Row.{staleAt}
 use Rattle.pool.specs.View.{cells}
 use Rattle.commands.specs.View.{stateOf}
 use Rattle.commands.specs.declared.Kernel.{Kernel}
-use Rattle.commands.proofs.Arrays.{queued-in}
 
 module _ (k : Kernel) (spoilt : Bool) (b gen p margin : ℕ) (m : Mail (k .places) (k .heads) (k .counts)) where
   pub queued-is : length (boxOf (stateOf k) p) ≡ getD (k .counts) (p - 1) 0

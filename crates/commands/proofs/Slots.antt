@@ -5,11 +5,11 @@ use mathlib.Core.Path.{_≡_, refl, sym, ap, _∙_}
 use Prim.Native.Nat.{ℕ, zero, suc, _*_, _-_, _<_, _≤_}
 use native.Mathlib.Nat.{not-suc-le-zero}
 use native.Mathlib.Omega.{arith}
-use borrow.Author.Tests.{eqb-true, leb-true, not-false}
+use borrow.Author.Tests.{eq-eqb, ne-eqb, eqb-true, leb-true, not-false}
 use lib.Dec.{eqb, leb}
-use lib.ListN.{length, getD, take, drop, length-drop, drop-of-length-le}
+use lib.ListN.{length, getD, take, drop, length-drop, take-append-drop, drop-of-length-le}
 use lib.Seq.{length-take-le, take-all}
-use Rattle.ground.specs.Bools.{and-left, and-right, cond-all}
+use Rattle.ground.specs.Bools.{and-left, and-right, cond-all, cond-pick}
 use Rattle.ground.specs.Parts.{part-over}
 use Rattle.chart.proofs.Theorems.{flattens, slot-size}
 use Rattle.chart.specs.Chart.{among, classOf, lengthOk, formsOk, treeOk, rowsOk, states}
@@ -61,14 +61,29 @@ module _ (s : State) (z : Areas) (a : Answer) where
   fault-some zero ne = absurd (ne refl)
   fault-some (suc c) ne = refl
 
--- slot q, filled from the chart d
-pub slot-over : (q at n : ℕ) (d l v : List ℕ) → q < slots → length l ≡ tableBytes → classOf d ≡ 0 → at ≡ slotSize * q → n ≡ slotSize →
-    v ≡ flattened d (take n (drop at l)) .1 → take at l ++ (v ++ drop n (drop at l)) ≡ over l (slotSize * q) (slotBytes d)
-unfolding over
-slot-over q at n d l v h e good f g r =
-    let m : length (take n (drop at l)) ≡ slotSize = length-take-le n (drop at l) (rw length-drop (omega arith)) ∙ g in
-    let w : v ≡ slotBytes d = r ∙ ap (λ p. p .1) (flattens d good (take n (drop at l)) m) in
-    part-over at n l v (ap length w ∙ slot-size d ∙ sym g) ∙ rw (w, f) refl
+-- slot q, filled from the chart d, or left where that is refused
+module _ (q at n : ℕ) (d l : List ℕ) (h : q < slots) (e : length l ≡ tableBytes) (f : at ≡ slotSize * q) (g : n ≡ slotSize) where
+  abbrev slot : List ℕ
+  slot = take n (drop at l)
+
+  slot-long : length slot ≡ slotSize
+  slot-long = length-take-le n (drop at l) (rw length-drop (omega arith)) ∙ g
+
+  pub slot-class : flattened d slot .0 ≡ classOf d
+  unfolding flattened
+  slot-class =
+      cond-pick (λ (x : ℕ × List ℕ). x .0 ≡ classOf d) (eqb (classOf d) 0) _ (classOf d, slot)
+      (λ t. rw (eq-eqb (length slot) slotSize slot-long) (sym (eqb-true (classOf d) 0 t))) (λ t. refl)
+
+  pub slot-filled : classOf d ≡ 0 → take at l ++ (flattened d slot .1 ++ drop n (drop at l)) ≡ over l (slotSize * q) (slotBytes d)
+  unfolding over
+  slot-filled good =
+      let w : flattened d slot .1 ≡ slotBytes d = ap (λ p. p .1) (flattens d good slot slot-long) in
+      part-over at n l (flattened d slot .1) (ap length w ∙ slot-size d ∙ sym g) ∙ rw (w, f) refl
+
+  pub slot-left : (classOf d ≡ 0 → ⊥) → take at l ++ (flattened d slot .1 ++ drop n (drop at l)) ≡ l
+  unfolding flattened
+  slot-left bad = rw (ne-eqb (classOf d) 0 bad, take-append-drop n (drop at l)) (take-append-drop at l)
 
 -- a row past the end of the tables, and one that ends with them
 module _ (l : List ℕ) (at : ℕ) where

@@ -1,4 +1,4 @@
--- ARM and DISARM: their tests by what the code reads, and what it says that none of them holds.
+-- ARM, DISARM and TICK: their tests by what the code reads, what it says that none of them holds, and what TICK answers.
 use mathlib.Core.Bool.{Bool, not}
 use mathlib.Core.List.{[], _∷_}
 use mathlib.Core.Path.{_≡_, refl}
@@ -7,11 +7,15 @@ use native.Mathlib.Omega.{arith}
 use lib.Dec.{eqb}
 use lib.ListN.{getD}
 use Rattle.machine.proofs.Tests.{none-holds, within-high}
-use Rattle.machine.specs.Clocks.{armTests, disarmTests}
+use Rattle.machine.specs.Clocks.{Ticked, armTests, disarmTests, tickDone, ticked}
+use Rattle.machine.specs.Inv.{Inv}
 use Rattle.machine.specs.Numbers.{noObject, noSignal, noTimer}
-use Rattle.machine.specs.Reply.{FORM, RANGE, ABSENT, TAKEN, lowest}
+use Rattle.machine.specs.Reply.{Areas, FORM, RANGE, ABSENT, TAKEN, done, lowest, replyOf}
 use Rattle.machine.specs.State.{State}
-use Rattle.commands.specs.View.{stateOf}
+use Rattle.mail.specs.View.{Mail}
+use Rattle.tick.specs.Timing.{Ready}
+use Rattle.commands.specs.View.{answered, stateOf}
+use Rattle.commands.specs.declared.Answered.{Answered}
 use Rattle.commands.specs.declared.Kernel.{Kernel}
 
 module _ (spoilt : Bool) (t p g ticks : ℕ) where
@@ -34,3 +38,14 @@ disarm-allowed spoilt t e =
     let h = none-holds (disarmTests spoilt t) refl e in
     let h0 = within-high 0 15 t (h .1 .0) in
     omega arith
+
+-- TICK: the arrays of a kernel, and what it answers with those that are left
+pub ready-of : (k : Kernel) → Mail (k .places) (k .heads) (k .counts) → Inv (stateOf k) →
+    Ready (k .places) (k .heads) (k .counts) (k .counters) (k .depths) (k .owners) (k .alarms) (k .intervals)
+unfolding stateOf
+ready-of k m i = record { mail = m; depths-length = i .seats .depths-length; deep = i .mail .deep; timers = i .timers }
+
+pub tick-answers : (r : Answered) (z : Areas) (s : State) (f l : ℕ) (x : Ticked) → stateOf (r .kernel) ≡ s → r .reply ≡ replyOf (done f l) → ticked s f l ≡ x →
+    answered r z ≡ tickDone x z
+unfolding answered tickDone
+tick-answers r z s f l x e g h = rw (← h, e, g) refl

@@ -1,4 +1,2 @@
--- View: how the struct is read as the machine's state, and what a good kernel is. For the proofs: Publish, and Timing for TICK.
-pub mod Publish
-pub mod Timing
+-- View: how the struct is read as the machine's state, and what a good kernel is.
 pub mod View

@@ -16,10 +16,10 @@ ghost use Rattle.commands.specs.View.{answered, areas, stateOf};
 use super::Answered;
 use super::Kernel;
 use super::is_open;
-use super::of_object;
 use super::refuse;
 use super::row_at;
 use ground::wide;
+use mail::of_object;
 use reply::refusals::load_refusal;
 use reply::refusals::start_refusal;
 
@@ -59,13 +59,15 @@ fn slot_used(k: Kernel, q: usize) -> bool
     false
 }
 
-// Slot q is filled from a good chart.
-fn fill_slot(q: usize, chart: &[u8], tables: &mut [u8])
-    requires { ⌜ (q < 4) × (length (now tables) ≡ 64608) × (classOf (now chart) ≡ 0) ⌝ }
-    ensures { λ _. ⌜ now (tables .exit) ≡ over (now (tables .entry)) (slotSize * q) (slotBytes (now (chart .entry))) ⌝ }
+// Slot q is filled from a good chart; a refused one leaves it. The class of the chart's fault, or 0.
+fn fill_slot(q: usize, chart: &[u8], tables: &mut [u8]) -> u32
+    requires { ⌜ (q < 4) × (length (now tables) ≡ 64608) ⌝ }
+    ensures { λ r. ⌜ r ≡ classOf (now (chart .entry)) ⌝ }
+    ensures { λ r. ⌜ (r ≡ 0 → now (tables .exit) ≡ over (now (tables .entry)) (slotSize * q) (slotBytes (now (chart .entry)))) ⌝ }
+    ensures { λ r. ⌜ ((r ≡ 0 → ⊥) → now (tables .exit) ≡ now (tables .entry)) ⌝ }
 {
     let at = SLOT * q;
-    chart::chart_flatten(chart, &mut tables[at..at + SLOT]);
+    chart::chart_flatten(chart, &mut tables[at..at + SLOT])
 }
 
 // Slot q has a chart.
@@ -89,14 +91,13 @@ pub fn load(k: Kernel, spoilt: bool, q: usize, chart: &[u8], tables: &mut [u8]) 
     if no != 0 {
         return refuse(k, no);
     }
-    let class = chart::chart_check(chart);
+    let class = fill_slot(q, chart, tables);
     if class != 0 {
         return Answered {
             kernel: k,
             reply: reply::bad_chart(class as u8),
         };
     }
-    fill_slot(q, chart, tables);
     Answered {
         kernel: with_chart(k, q),
         reply: reply::done(chart::chart_states(chart) as u8, 0),

@@ -4,22 +4,19 @@ ghost use mathlib.Core.Path.{_≡_};
 ghost use Prim.Native.Nat.{ℕ, _-_, _<_, _≤_};
 ghost use lib.ListN.{getD, set};
 ghost use Rattle.machine.specs.Events as machine;
-ghost use Rattle.machine.specs.Events.{fullReceiver, posted, postedFront, publishDone};
+ghost use Rattle.machine.specs.Events.{fullReceiver, posted, postedFront, publishDone, published};
 ghost use Rattle.machine.specs.Reply.{Areas};
 ghost use Rattle.machine.specs.State.{withCells, withHolds};
 ghost use Rattle.pool.specs.View.{cells};
 ghost use Rattle.commands.specs.View.{answered, Good, stateOf};
 use super::Answered;
 use super::Kernel;
-use super::of_object;
-use super::one;
-use super::publish::any_full;
-use super::publish::publish_all;
-use super::publish::receivers;
 use super::refuse;
-use super::room_of;
 use ground::byte_at;
+use ground::one;
 use ground::wide;
+use mail::of_object;
+use mail::room_of;
 use pool::Pool;
 use reply::refusals::FULL;
 use reply::refusals::HOLDS;
@@ -122,6 +119,24 @@ fn with_pool(k: Kernel, pool: Pool) -> Kernel
     next
 }
 
+// Block b goes to the back of every subscriber to signal g, each of which has room.
+fn post_to_all(k: Kernel, b: usize, g: usize) -> Kernel
+    requires { ⌜ (b < 56) × (g < 256) ⌝ }
+    requires { ⌜ (fullReceiver (stateOf k) g 16 ≡ false) × ((q : ℕ) → getD (k .depths) q 0 ≤ 16) ⌝ }
+    ensures { λ r. ⌜ stateOf r ≡ published (stateOf k) g b 16 ⌝ }
+{
+    let wants = k.wants;
+    let mut places = k.places;
+    let heads = k.heads;
+    let mut counts = k.counts;
+    let pool = publish::post_to_all(&wants, &mut places, &heads, &mut counts, k.pool, b, g);
+    let mut next = k;
+    next.places = places;
+    next.counts = counts;
+    next.pool = pool;
+    next
+}
+
 // What PUBLISH does where every subscriber to the event's signal g has a place.
 fn publish_done(k: Kernel, b: usize, g: usize) -> Answered
     requires { ⌜ (b < 56) × (g < 256) × (g ≡ getD (k .signals) b 0) ⌝ }
@@ -129,7 +144,7 @@ fn publish_done(k: Kernel, b: usize, g: usize) -> Answered
     ensures { λ r. ⌜ ((z : Areas) → answered r z ≡ publishDone (machine.receivers (stateOf k) g 16) b (stateOf k) z) ⌝ }
 {
     let wants = k.wants;
-    let n = receivers(&wants, g);
+    let n = publish::receivers(&wants, g);
     if n == 0 {
         let gone = pool::drop_new(k.pool, b);
         return Answered {
@@ -138,7 +153,7 @@ fn publish_done(k: Kernel, b: usize, g: usize) -> Answered
         };
     }
     Answered {
-        kernel: publish_all(k, b, g),
+        kernel: post_to_all(k, b, g),
         reply: reply::done(n, 0),
     }
 }
@@ -154,7 +169,7 @@ pub fn publish(k: Kernel, spoilt: bool, b: usize, generation: u8) -> Answered
     let counts = k.counts;
     let g = wide(byte_at(&signals, b));
     let stale = pool::stale(k.pool, b, generation);
-    let full = any_full(&wants, &depths, &counts, g);
+    let full = publish::any_full(&wants, &depths, &counts, g);
     let no = handle_refusal(spoilt, b, stale, FULL, full);
     if no != 0 {
         return refuse(k, no);

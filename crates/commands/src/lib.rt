@@ -3,7 +3,6 @@ pub mod charts;
 pub mod clocks;
 pub mod events;
 pub mod payloads;
-mod publish;
 pub mod steps;
 pub mod subscriptions;
 
@@ -79,34 +78,6 @@ pub fn refuse(k: Kernel, n: u8) -> Answered
         kernel: k,
         reply: reply::refused(n),
     }
-}
-
-// What an array has of object p; 0 where there is no such object.
-fn of_object(a: &[u8; 16], p: usize) -> usize
-    requires { ⌜ length (now a) ≡ 16 ⌝ }
-    ensures { λ r. ⌜ (r ≡ getD (now (a .entry)) (p - 1) 0) × (r < 256) ⌝ }
-{
-    if p == 0 {
-        return ground::wide(a[0]);
-    }
-    if 16 < p {
-        return 0;
-    }
-    ground::wide(a[p - 1])
-}
-
-// The free places of a mailbox.
-fn room_of(depth: usize, count: usize) -> usize
-    ensures { λ r. ⌜ r ≡ depth - count ⌝ }
-{
-    if depth < count { 0 } else { depth - count }
-}
-
-// 1 for true: how a value byte says it.
-fn one(t: bool) -> u8
-    ensures { λ r. ⌜ (r ≡ box.one t) × (r ≤ 1) ⌝ }
-{
-    if t { 1 } else { 0 }
 }
 
 // Whether a step is open: there is an event in hand.

@@ -5,8 +5,7 @@ ghost use Prim.Native.Nat.{ℕ, _+_, _<_, _≤_};
 ghost use lib.ListN.{getD, length};
 ghost use Rattle.ground.specs.Bytes.{padded};
 ghost use Rattle.machine.specs.Events as machine;
-ghost use Rattle.machine.specs.Events.{newEvent, newIn, payloadOf, readTests};
-ghost use Rattle.machine.specs.Machine.{partOf};
+ghost use Rattle.machine.specs.Events.{newEvent, newIn, payloadOf, readPart, readTests};
 ghost use Rattle.machine.specs.Numbers.{capacity, placeOf};
 ghost use Rattle.machine.specs.Reply.{lowest, over};
 ghost use Rattle.pool.specs.Cell.{handedOut};
@@ -33,13 +32,6 @@ const LARGE: usize = 48;
 const MIDDLE_PLACE: usize = 512;
 
 const LARGE_PLACE: usize = 1024;
-
-// A record of READ: its length, its number, and the first byte behind its arguments.
-const RECORD: usize = 72;
-
-const READ: u8 = 17;
-
-const UNUSED: usize = 3;
 
 // How many bytes block b holds.
 fn capacity_of(b: usize) -> usize
@@ -178,20 +170,18 @@ pub fn read(k: Kernel, spoilt: bool, b: usize, generation: u8, payloads: &[u8]) 
     }
 }
 
-// The part of the payload area that READ hands back: empty when refused, and for any other record.
-pub fn read_part<'a>(k: Kernel, record: &[u8], payloads: &'a [u8]) -> &'a [u8]
+// The part of the payload area that READ hands back; empty when refused.
+pub fn read_part<'a>(
+    k: Kernel,
+    spoilt: bool,
+    b: usize,
+    generation: u8,
+    payloads: &'a [u8],
+) -> &'a [u8]
     requires { ⌜ Good k ⌝ }
-    ensures { λ r. ⌜ now r ≡ partOf (stateOf k) (now («record» .entry)) (now (payloads .entry)) ⌝ }
+    ensures { λ r. ⌜ now r ≡ readPart spoilt b generation (stateOf k) (now (payloads .entry)) ⌝ }
 {
-    if record.len() != RECORD {
-        return &payloads[0..0];
-    }
-    if record[0] != READ {
-        return &payloads[0..0];
-    }
-    let spoilt = !ground::blank(record, UNUSED, RECORD);
-    let b = wide(record[1]);
-    let no = read_no(k, spoilt, b, record[2], payloads);
+    let no = read_no(k, spoilt, b, generation, payloads);
     if no != 0 {
         return &payloads[0..0];
     }

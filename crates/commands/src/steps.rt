@@ -18,9 +18,9 @@ ghost use Rattle.commands.specs.View.{answered, areas, Good, holding, st
 use super::Answered;
 use super::Kernel;
 use super::is_open;
-use super::one;
 use super::refuse;
 use drain::Coming;
+use ground::one;
 use ground::wide;
 use mail::Hand;
 use reply::first;

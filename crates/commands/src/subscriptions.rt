@@ -3,13 +3,13 @@ ghost use mathlib.Core.Path.{_≡_};
 ghost use Prim.Native.Nat.{_≤_};
 ghost use Rattle.machine.specs.Events as machine;
 ghost use Rattle.machine.specs.Reply.{Areas, lowest};
-ghost use Rattle.machine.specs.State.{subscribed};
 ghost use Rattle.commands.specs.View.{answered, stateOf};
 use super::Answered;
 use super::Kernel;
-use super::of_object;
-use super::one;
 use super::refuse;
+use ground::one;
+use mail::of_object;
+use publish::subscribes;
 use reply::refusals::subscribe_refusal;
 
 // Each object has a place for each number below 32.
@@ -18,14 +18,6 @@ const SIGNALS: usize = 32;
 const SUBSCRIBED: u8 = 1;
 
 const NOT_SUBSCRIBED: u8 = 0;
-
-// Whether p subscribes to g.
-fn subscribes(k: Kernel, p: usize, g: usize) -> bool
-    requires { ⌜ (1 ≤ p) × (p ≤ 16) × (g ≤ 31) ⌝ }
-    ensures { λ r. ⌜ r ≡ subscribed (stateOf k) p g ⌝ }
-{
-    k.wants[SIGNALS * (p - 1) + g] == SUBSCRIBED
-}
 
 // Object p subscribes to g from now on, or does not.
 fn wanting(k: Kernel, p: usize, g: usize, v: u8) -> Kernel
@@ -53,7 +45,8 @@ pub fn subscribe(k: Kernel, spoilt: bool, p: usize, g: usize) -> Answered
     if no != 0 {
         return refuse(k, no);
     }
-    let was = subscribes(k, p, g);
+    let wants = k.wants;
+    let was = subscribes(&wants, p, g);
     Answered {
         kernel: wanting(k, p, g, SUBSCRIBED),
         reply: reply::done(one(!was), 0),
@@ -68,7 +61,8 @@ pub fn unsubscribe(k: Kernel, spoilt: bool, p: usize, g: usize) -> Answered
     if no != 0 {
         return refuse(k, no);
     }
-    let was = subscribes(k, p, g);
+    let wants = k.wants;
+    let was = subscribes(&wants, p, g);
     Answered {
         kernel: wanting(k, p, g, NOT_SUBSCRIBED),
         reply: reply::done(one(was), 0),

@@ -1,4 +1,5 @@
 // What several layers need of bytes, once.
+ghost use mathlib.Core.Bool.{cond};
 ghost use mathlib.Core.Path.{_≡_};
 ghost use Prim.Native.Nat.{_<_, _≤_};
 ghost use lib.ListN.{getD, length};
@@ -10,6 +11,13 @@ pub fn wide(x: u8) -> usize
     ensures { λ r. ⌜ (r ≡ x) × (r < 256) ⌝ }
 {
     x as usize
+}
+
+// 1 for true: how a byte says it.
+pub fn one(t: bool) -> u8
+    ensures { λ r. ⌜ (r ≡ cond t 1 0) × (r ≤ 1) ⌝ }
+{
+    if t { 1 } else { 0 }
 }
 
 // Byte i, 0 past the end.

@@ -21,7 +21,13 @@ pub fn read_part<'a>(k: Kernel, record: &[u8], payloads: &'a [u8]) -> &'a [u8]
     requires { ⌜ Good k ⌝ }
     ensures { λ r. ⌜ now r ≡ partOf (stateOf k) (now («record» .entry)) (now (payloads .entry)) ⌝ }
 {
-    commands::payloads::read_part(k, record, payloads)
+    if record.len() != records::BYTES {
+        return &payloads[0..0];
+    }
+    if record[0] != records::READ {
+        return &payloads[0..0];
+    }
+    records::read_part_of(k, record, payloads)
 }
 
 // Any record, with the chart that LOAD loads, and the areas.

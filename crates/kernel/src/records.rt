@@ -3,6 +3,7 @@ ghost use mathlib.Core.List.{List};
 ghost use mathlib.Core.Path.{_≡_};
 ghost use Prim.Native.Nat.{ℕ, _<_, _≤_};
 ghost use lib.ListN.{getD, length};
+ghost use Rattle.machine.specs.Events.{readPart};
 ghost use Rattle.machine.specs.Machine as machine;
 ghost use Rattle.machine.specs.Machine.{command};
 ghost use Rattle.machine.specs.Reply.{Areas};
@@ -274,6 +275,21 @@ pub fn read_command(k: Kernel, record: &[u8], payloads: &[u8]) -> Answered
         ≡ command 17 (now («record» .entry)) d (stateOf k) (areas (now (payloads .entry)) t l)) ⌝ }
 {
     payloads::read(
+        k,
+        spoilt(record, 2),
+        arg(record, 1),
+        byte_at(record, 2),
+        payloads,
+    )
+}
+
+// The part of the payload area that READ hands back.
+pub fn read_part_of<'a>(k: Kernel, record: &[u8], payloads: &'a [u8]) -> &'a [u8]
+    requires { ⌜ Good k ⌝ }
+    ensures { λ r. ⌜ now r ≡ readPart (machine.spoilt 2 (now («record» .entry))) (getD (now («record» .entry)) 1 0) (getD (now («record» .entry)) 2 0)
+        (stateOf k) (now (payloads .entry)) ⌝ }
+{
+    payloads::read_part(
         k,
         spoilt(record, 2),
         arg(record, 1),

@@ -210,3 +210,7 @@ payloadOf s b payloads = take (sizeIn s b) (drop (placeOf b) payloads)
 
 unfoldable pub read : Bool → ℕ → ℕ → State → Areas → Answer
 read spoilt b gen s z = unless (lowest (readTests spoilt b gen s (z .payloads))) s z (answer s (shown (payloadOf s b (z .payloads))) z)
+
+-- That part; empty when refused.
+unfoldable pub readPart : Bool → ℕ → ℕ → State → List ℕ → List ℕ
+readPart spoilt b gen s payloads = cond (eqb (lowest (readTests spoilt b gen s payloads)) 0) (payloadOf s b payloads) []

@@ -7,9 +7,9 @@ use lib.ListN.{length, getD, drop}
 use Rattle.ground.specs.Bytes.{blank}
 use Rattle.machine.specs.Charts.{load, start}
 use Rattle.machine.specs.Clocks.{arm, disarm, tick}
-use Rattle.machine.specs.Events.{new, post, postFront, publish, subscribe, unsubscribe, hold, release, dropEvent, readTests, payloadOf, read}
+use Rattle.machine.specs.Events.{new, post, postFront, publish, subscribe, unsubscribe, hold, release, dropEvent, read, readPart}
 use Rattle.machine.specs.Numbers.{recordBytes, noSize}
-use Rattle.machine.specs.Reply.{FORM, no, Areas, Answer, answer, lowest}
+use Rattle.machine.specs.Reply.{FORM, no, Areas, Answer, answer}
 use Rattle.machine.specs.State.{State}
 use Rattle.machine.specs.Steps.{next, end, drain}
 
@@ -61,9 +61,6 @@ command n r d s z =
 unfoldable pub answerTo : State → List ℕ → List ℕ → Areas → Answer
 answerTo s r d z = choose (eqb (length r) recordBytes) (command (arg r 0) r d s z) (answer s (no FORM) z)
 
--- The part of the payload area that READ hands back: empty when refused, and for any other record.
+-- The part of the payload area that READ hands back; empty for any other record.
 unfoldable pub partOf : State → List ℕ → List ℕ → List ℕ
-partOf s r payloads =
-    cond (eqb (length r) recordBytes && (eqb (arg r 0) 17 && eqb (lowest (readTests (spoilt 2 r) (arg r 1) (arg r 2) s payloads)) 0))
-    (payloadOf s (arg r 1) payloads)
-    []
+partOf s r payloads = cond (eqb (length r) recordBytes && eqb (arg r 0) 17) (readPart (spoilt 2 r) (arg r 1) (arg r 2) s payloads) []

@@ -3,7 +3,7 @@
 ghost use mathlib.Core.List.{List};
 ghost use mathlib.Core.Path.{_≡_};
 ghost use Prim.Native.Nat.{ℕ, _+_, _-_, _<_, _≤_};
-ghost use lib.ListN.{getD, set};
+ghost use lib.ListN.{getD, length, set};
 ghost use Rattle.mail.specs.Box.{pushBack, pushFront, tookFront, front, highest};
 ghost use Rattle.mail.specs.Entry.{entryOf, handOf};
 ghost use Rattle.mail.specs.Inside.{placeOf, boxes, Mail, Holds};
@@ -109,6 +109,27 @@ pub fn highest(counts: &[u8; 16]) -> usize
         p -= 1;
     }
     0
+}
+
+// What an array has of object p, counted from 1; 0 where there is no such object.
+pub fn of_object(a: &[u8; 16], p: usize) -> usize
+    requires { ⌜ length (now a) ≡ 16 ⌝ }
+    ensures { λ r. ⌜ (r ≡ getD (now (a .entry)) (p - 1) 0) × (r < 256) ⌝ }
+{
+    if p == 0 {
+        return wide(a[0]);
+    }
+    if OBJECTS < p {
+        return 0;
+    }
+    wide(a[p - 1])
+}
+
+// The free places of a mailbox.
+pub fn room_of(depth: usize, count: usize) -> usize
+    ensures { λ r. ⌜ r ≡ depth - count ⌝ }
+{
+    if depth < count { 0 } else { depth - count }
 }
 
 pub fn hand_of(e: u16) -> Hand

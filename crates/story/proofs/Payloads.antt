@@ -24,7 +24,7 @@ use Rattle.pool.specs.declared.Found.the-variants.{At, Nothing}
 use Rattle.machine.proofs.Blocks.{place-end}
 use Rattle.machine.proofs.Counts.{live-handle}
 use Rattle.machine.proofs.Tests.{NoneHolds, none-holds, within-high, within-block}
-use Rattle.machine.specs.Events.{noneFound, newTests, newEvent, newIn, readTests, payloadOf}
+use Rattle.machine.specs.Events.{noneFound, newTests, newEvent, newIn, readTests, payloadOf, readPart}
 use Rattle.machine.specs.Inv.{isLive}
 use Rattle.machine.specs.Machine.{payload, spoilt, spoiltNew, partOf}
 use Rattle.machine.specs.Numbers.{payloadBytes, recordBytes, capacity, placeOf}
@@ -242,7 +242,7 @@ front-of k l h = take-take (length l) k (l ++ replicate k 0) h ∙ take-at l (re
 
 part-is : (s : State) (r area : List ℕ) → eqb (length r) recordBytes ≡ true → getD r 0 0 ≡ READ →
     lowest (readTests (spoilt 2 r) (getD r 1 0) (getD r 2 0) s area) ≡ 0 → partOf s r area ≡ payloadOf s (getD r 1 0) area
-unfolding partOf
+unfolding partOf readPart
 part-is s r area long e none = rw (long, e, none) refl
 
 pub reads : Demands.Reads

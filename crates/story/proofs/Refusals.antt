@@ -12,7 +12,7 @@ use Rattle.machine.proofs.Fresh.{fresh-inv}
 use Rattle.machine.proofs.Keeps.{keeps}
 use Rattle.machine.proofs.Replies.{replies}
 use Rattle.machine.proofs.Tests.{unless-none}
-use Rattle.machine.specs.Events.{readTests, read}
+use Rattle.machine.specs.Events.{readTests, read, readPart}
 use Rattle.machine.specs.Inv.{Inv}
 use Rattle.machine.specs.Machine.{arg, spoilt, choose, command, answerTo, partOf}
 use Rattle.machine.specs.Numbers.{recordBytes}
@@ -59,21 +59,20 @@ done h c =
     )
 
 -- a record that shows a part is a READ that is done
-shown-done : (s : State) (r d : List ℕ) (z : Areas) →
-    (eqb (length r) recordBytes && (eqb (arg r 0) 17 && eqb (lowest (readTests (spoilt 2 r) (arg r 1) (arg r 2) s (z .payloads))) 0)) ≡ true →
-    getD (answerTo s r d z .reply) 0 0 ≡ 0
+shown-done : (s : State) (r d : List ℕ) (z : Areas) → (eqb (length r) recordBytes && eqb (arg r 0) 17) ≡ true →
+    eqb (lowest (readTests (spoilt 2 r) (arg r 1) (arg r 2) s (z .payloads))) 0 ≡ true → getD (answerTo s r d z .reply) 0 0 ≡ 0
 unfolding answerTo command choose read replyOf bytes
-shown-done s r d z e =
+shown-done s r d z e none =
     let long = and-left (eqb (length r) recordBytes) _ e in
-    let more = and-right (eqb (length r) recordBytes) _ e in
-    let is : arg r 0 ≡ 17 = eqb-true _ 17 (and-left (eqb (arg r 0) 17) _ more) in
-    let none = eqb-true _ 0 (and-right (eqb (arg r 0) 17) _ more) in
-    rw (long, is) (ap (λ a. getD (a .reply) 0 0) (unless-none s z _ _ none))
+    let is : arg r 0 ≡ 17 = eqb-true _ 17 (and-right (eqb (length r) recordBytes) _ e) in
+    rw (long, is) (ap (λ a. getD (a .reply) 0 0) (unless-none s z _ _ (eqb-true _ 0 none)))
 
 no-part : (h : Story) (c : Call) → 0 < number h c → partOf (kernel h) (c .command) (c .areas .payloads) ≡ []
-unfolding partOf
-no-part h c pos =
-    cond-pick (λ (l : List ℕ). l ≡ []) _ _ _ (λ e. let z = shown-done (kernel h) (c .command) (c .chart) (c .areas) e in absurd (omega (arith, z))) (λ e. refl)
+unfolding partOf readPart
+no-part h c pos = cond-pick empty _ _ _ (λ e. cond-pick empty _ _ _ (λ f. absurd (omega (arith, shown-done (kernel h) (c .command) (c .chart) (c .areas) e f))) (λ f. refl)) (λ e. refl)
+  where
+    empty : List ℕ → Type 0
+    empty l = l ≡ []
 
 pub untouched : Untouched
 unfolding kernel

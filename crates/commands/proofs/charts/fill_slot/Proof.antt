@@ -1,17 +1,25 @@
 use borrow.Author.Needs.{needs}
-use mathlib.Core.Path.{_≡_, refl}
+use mathlib.Core.Path.{_≡_, refl, sym, _∙_}
 use Prim.Native.Nat.{_+_, _*_, _-_}
 use native.Mathlib.Omega.{arith}
-use Rattle.commands.proofs.Slots.{slot-over}
+use Rattle.chart.specs.Flat.{flattened}
+use Rattle.commands.proofs.Slots.{slot-class, slot-filled, slot-left}
 use Rattle.commands.proofs.charts.fill_slot.Statement.{statement}
 use Rattle.commands.proofs.charts.fill_slot.Tie as tie
 
 returns : tie.Need-returns
 returns c =
     let s = c .before .before .before .before .before .before in
+    let f = c .before .before .chart-flatten .ensures in
     let at = 16152 * s .args .q in
     let n : at + 16152 - at ≡ 16152 = omega arith in
-    slot-over (s .args .q) at (at + 16152 - at) (s .args .chart .now) (s .args .tables .now) _ (s .pre .0) (s .pre .1) (s .pre .2) refl n (c .before .before .chart-flatten .ensures .1)
+    let d = s .args .chart .now in
+    let l = s .args .tables .now in
+    let class = f .0 ∙ slot-class (s .args .q) at (at + 16152 - at) d l (s .pre .0) (s .pre .1) refl n in (
+      class,
+      (λ e. rw (f .1) (slot-filled (s .args .q) at (at + 16152 - at) d l (s .pre .0) (s .pre .1) refl n (sym class ∙ e)),
+      λ ne. rw (f .1) (slot-left (s .args .q) at (at + 16152 - at) d l (s .pre .0) (s .pre .1) refl n (λ e. ne (class ∙ e)))),
+    )
 
 pub fill-slot-spec : {M : Type 1} → statement M
 fill-slot-spec =

@@ -29,41 +29,40 @@ returns : tie.Need-returns
 unfolding load
 returns c = λ p l. refusal _ _ _ _ (areas p _ l) _ (tests-are (c .before .before)) (c .before .if1 .taken) (c .refuse .ensures)
 
+fill-slot-requires : tie.Need-fill-slot-requires
+fill-slot-requires c κs = allowed (c .before .before) (c .before .if1 .left)
+
 cast-bad-chart : tie.Need-cast-bad-chart
-cast-bad-chart c = omega (arith, c .before .chart-check .ensures, class-most (entry (c .before .before .before) .args .chart .now))
+cast-bad-chart c = omega (arith, c .before .before .before .fill-slot .ensures .0, class-most (entry (c .before .before .before .before .before .before) .args .chart .now))
 
 returns-2 : tie.Need-returns-2
 unfolding load answered
 returns-2 c = λ p l.
-    let d = c .before .before .before .before in
-    let class = c .before .before .chart-check .ensures in
-    writing _ _ _ _ (areas p _ l) _ (tests-are d) (areas p _ l) (c .before .before .before .if1 .left)
-    (rw (fault-some _ _ _ _ (λ e. c .before .if2 .taken (class ∙ e)), c .bad-chart .ensures, class) refl)
-
-fill-slot-requires : tie.Need-fill-slot-requires
-fill-slot-requires c κs =
-    let h = allowed (c .before .before .before .before) (c .before .before .before .if1 .left) in
-    (h .0, h .1, sym (c .before .before .chart-check .ensures) ∙ c .before .if2 .left)
+    let d = c .before .before .before .before .before .before .before in
+    let f = c .before .before .before .before .fill-slot .ensures in
+    let bad = c .before .if2 .taken in
+    writing _ _ _ _ (areas p (entry d .args .tables .now) l) _ (tests-are d) (areas p _ l) (c .before .before .before .before .before .before .if1 .left)
+    (rw (fault-some _ _ _ _ (λ e. bad (f .0 ∙ e)), c .bad-chart .ensures, f .0, f .1 .1 bad) refl)
 
 with-chart-requires : tie.Need-with-chart-requires
-with-chart-requires c κs = allowed (c .before .before .before .before .before .before .before) (c .before .before .before .before .before .before .if1 .left) .0
+with-chart-requires c κs = allowed (c .before .before .before .before .before .before) (c .before .before .before .before .before .if1 .left) .0
 
 cast-done : tie.Need-cast-done
 cast-done c =
-    let class = c .before .before .before .before .before .before .before .chart-check .ensures in
-    let d = entry (c .before .before .before .before .before .before .before .before .before) .args .chart .now in
-    omega (arith, c .chart-states .ensures, few-states d (sym class ∙ c .before .before .before .before .before .before .if2 .left))
+    let class = c .before .before .before .before .before .fill-slot .ensures .0 in
+    omega (arith, c .chart-states .ensures, few-states (entry (c .before .before .before .before .before .before .before .before) .args .chart .now) (sym class ∙ c .before .before .if2 .left))
 
 returns-3 : tie.Need-returns-3
 unfolding load answered
 returns-3 c = λ p l.
-    let d = c .before .before .before .before .before .before .before .before .before .before in
-    let class = c .before .before .before .before .before .before .before .before .chart-check .ensures in
-    writing _ _ _ _ (areas p (entry d .args .tables .now) l) _ (tests-are d) (areas p _ l) (c .before .before .before .before .before .before .before .before .before .if1 .left)
-    (rw (fault-none _ _ _ _ (sym class ∙ c .before .before .before .before .before .before .before .if2 .left), c .before .before .with-chart .ensures, c .done .ensures, c .before .chart-states .ensures, c .before .before .before .before .before .fill-slot .ensures) refl)
+    let d = c .before .before .before .before .before .before .before .before .before in
+    let f = c .before .before .before .before .before .before .fill-slot .ensures in
+    let good = c .before .before .before .if2 .left in
+    writing _ _ _ _ (areas p (entry d .args .tables .now) l) _ (tests-are d) (areas p _ l) (c .before .before .before .before .before .before .before .before .if1 .left)
+    (rw (fault-none _ _ _ _ (sym (f .0) ∙ good), c .before .before .with-chart .ensures, c .done .ensures, c .before .chart-states .ensures, f .1 .0 good) refl)
 
 pub load-spec : {M : Type 1} → statement M
 load-spec =
     tie.close
-    (tie.spec (λ c κs. search needs) (λ c κs. search needs) (λ c κs. search needs) (λ c κs. search needs) returns (λ c κs. search needs) cast-bad-chart (λ c κs. search needs)
-    returns-2 fill-slot-requires with-chart-requires (λ c κs. search needs) cast-done (λ c κs. search needs) (λ c. search needs) returns-3)
+    (tie.spec (λ c κs. search needs) (λ c κs. search needs) (λ c κs. search needs) (λ c κs. search needs) returns fill-slot-requires cast-bad-chart
+    (λ c κs. search needs) (λ c. search needs) returns-2 with-chart-requires (λ c κs. search needs) cast-done (λ c κs. search needs) (λ c. search needs) returns-3)

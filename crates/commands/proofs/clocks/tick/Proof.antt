@@ -3,11 +3,11 @@ use mathlib.Core.Path.{refl}
 use native.Mathlib.Omega.{arith}
 use Rattle.machine.specs.Clocks.{tick}
 use Rattle.machine.specs.Reply.{lowest}
-use Rattle.commands.specs.Timing.{timing}
+use Rattle.tick.specs.Timing.{timing}
 use Rattle.commands.specs.View.{stateOf}
 use Rattle.commands.proofs.Arrays.{mail-of}
 use Rattle.commands.proofs.Glue.{refusal, doing}
-use Rattle.commands.proofs.Ticks.{ready-of, tick-answers}
+use Rattle.commands.proofs.Timers.{ready-of, tick-answers}
 use Rattle.commands.proofs.clocks.tick.Statement.{statement}
 use Rattle.commands.proofs.clocks.tick.Tie as tie
 

@@ -29,7 +29,7 @@ returns-2 c =
     λ z. rw (
       ← s .before .receivers .ensures (stateOf (a .k)) refl,
       done-some (a .b) (stateOf (a .k)) z _ (s .if1 .left),
-      c .before .publish-all .ensures,
+      c .before .post-to-all .ensures,
       c .done2 .ensures,
       ← s .before .before .before .before .pre .0 .2,
     ) refl
