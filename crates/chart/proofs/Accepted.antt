@@ -10,7 +10,7 @@ use native.Mathlib.Omega.{arith}
 use borrow.Author.Tests.{eq-eqb, ne-eqb, eqb-true, eqb-false, leb-true, leb-false, ltb-true}
 use lib.Dec.{eqb, leb, ltb}
 use lib.ListN.{length, getD, length-append}
-use Rattle.ground.specs.Bools.{no-yes, and-left, and-right, or-right, cond-pick, cond-else, eq-or}
+use Rattle.ground.specs.Bools.{no-yes, and-left, and-right, or-right, cond-pick, cond-all, cond-else, eq-or}
 use Rattle.ground.specs.Every.{every-at}
 use Rattle.ground.specs.Range.{every}
 use Rattle.ground.specs.Search.{first-is}
@@ -59,6 +59,17 @@ few n d e = among-of 24 n (and-right (every (formAt n d) 0 (records d)) _ e)
 
 pub few-states : (d : List ℕ) → classOf d ≡ 0 → states d ≤ 24
 few-states d z = few (states d) d (accepted d z .forms) .1
+
+-- a class is one of 0 to 4
+pub class-most : (d : List ℕ) → classOf d ≤ 4
+unfolding classOf
+class-most d =
+    cond-all low (lengthOk d)
+    (cond-all low (formsOk (states d) d)
+    (cond-all low (treeOk (states d) d) (cond-all low (rowsOk (states d) d) (omega arith) (omega arith)) (omega arith)) (omega arith)) (omega arith)
+  where
+    low : ℕ → Type 0
+    low n = n ≤ 4
 
 -- ## Going outward
 module _ (d : List ℕ) where

@@ -1,38 +1,26 @@
--- NEW and READ: the place of a block in the payload area, their tests, and what it says that none of them holds.
+-- NEW and READ: their tests, and what it says that none of them holds.
 use mathlib.Core.Bool.{Bool, true, false, not}
-use mathlib.Core.List.{List, [], _∷_, _++_}
-use mathlib.Core.Path.{_≡_, refl, sym, ap, _∙_}
+use mathlib.Core.List.{List, [], _∷_}
+use mathlib.Core.Path.{_≡_, refl, sym, _∙_}
 use Prim.Native.Nat.{ℕ, _+_, _<_, _≤_}
 use native.Mathlib.Omega.{arith}
 use borrow.Author.Tests.{eqb-true, not-false}
 use lib.Dec.{eqb, ltb}
-use lib.ListN.{length, take, drop, length-drop}
+use lib.ListN.{length, drop, length-drop}
 use lib.Seq.{length-take-le}
 use Rattle.ground.specs.Bools.{cond-all, no-yes}
-use Rattle.ground.specs.Bytes.{padded}
-use Rattle.ground.specs.Padding.{length-padded}
-use Rattle.ground.specs.Parts.{part-over}
-use Rattle.machine.proofs.Blocks.{place-end, payload-within}
+use Rattle.machine.proofs.Blocks.{payload-within}
 use Rattle.machine.proofs.Counts.{live-handle}
 use Rattle.machine.proofs.Tests.{none-holds, within-high, within-block}
 use Rattle.machine.specs.Events.{noneFound, newTests, readTests, payloadOf}
 use Rattle.machine.specs.Inv.{Inv}
 use Rattle.machine.specs.Numbers.{blocks, payloadBytes, noSignal, noSize, capacity, placeOf}
-use Rattle.machine.specs.Reply.{FORM, AREA, RANGE, DRY, lowest, over}
+use Rattle.machine.specs.Reply.{FORM, AREA, RANGE, DRY, lowest}
 use Rattle.machine.specs.State.{State, sizeIn}
 use Rattle.pool.specs.Cell.{Cell, handedOut}
 use Rattle.pool.specs.Laws.{found-lowest, pool-end}
 use Rattle.pool.specs.Row.{changed, found, poolFor, afterTake}
 use Rattle.pool.specs.declared.Found.the-variants.{At, Nothing}
-
--- the place of block b, filled from p
-pub put-over : (b at n : ℕ) (l p v : List ℕ) → b < 56 → length l ≡ payloadBytes → at ≡ placeOf b → n ≡ capacity b → v ≡ padded (length (take n (drop at l))) p →
-    take at l ++ (v ++ drop n (drop at l)) ≡ over l (placeOf b) (padded (capacity b) p)
-unfolding over
-put-over b at n l p v h e f g r =
-    let m : length (take n (drop at l)) ≡ n = length-take-le n (drop at l) (rw length-drop (omega (arith, place-end b h))) in
-    let w : v ≡ padded n p = rw m at r in
-    part-over at n l v (ap length w ∙ length-padded n p) ∙ rw (w, f, g) refl
 
 -- NEW.
 abbrev pub newList : Bool → List ℕ → ℕ → ℕ → Bool → List (ℕ × Bool)

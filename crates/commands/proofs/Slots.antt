@@ -1,24 +1,21 @@
--- LOAD and START: the objects that use a slot, the slot in the tables, the rows there, and what it says that none of their tests holds.
+-- LOAD and START: the objects that use a slot, and what it says that none of their tests holds.
 use mathlib.Core.Bool.{Bool, true, false, not, _&&_}
-use mathlib.Core.List.{List, [], _∷_, _++_}
+use mathlib.Core.List.{List, [], _∷_}
 use mathlib.Core.Path.{_≡_, refl, sym, ap, _∙_}
-use Prim.Native.Nat.{ℕ, zero, suc, _*_, _-_, _<_, _≤_}
+use Prim.Native.Nat.{ℕ, zero, suc, _-_, _<_, _≤_}
 use native.Mathlib.Nat.{not-suc-le-zero}
 use native.Mathlib.Omega.{arith}
-use borrow.Author.Tests.{eq-eqb, ne-eqb, eqb-true, leb-true, not-false}
+use borrow.Author.Tests.{eqb-true, leb-true, not-false}
 use lib.Dec.{eqb, leb}
-use lib.ListN.{length, getD, take, drop, length-drop, take-append-drop, drop-of-length-le}
-use lib.Seq.{length-take-le, take-all}
-use Rattle.ground.specs.Bools.{and-left, and-right, cond-all, cond-pick}
-use Rattle.ground.specs.Parts.{part-over}
-use Rattle.chart.proofs.Theorems.{flattens, slot-size}
-use Rattle.chart.specs.Chart.{among, classOf, lengthOk, formsOk, treeOk, rowsOk, states}
-use Rattle.chart.specs.Flat.{flattened, rowAt, slotBytes, sound}
-use Rattle.chart.specs.Numbers.{rowSize, slotSize, mostStates}
+use lib.ListN.{length, getD}
+use Rattle.ground.specs.Bools.{and-left, and-right}
+use Rattle.chart.specs.Chart.{among}
+use Rattle.chart.specs.Flat.{sound}
+use Rattle.chart.specs.Numbers.{rowSize, mostStates}
 use Rattle.machine.proofs.Tests.{none-holds, within-low, within-high}
 use Rattle.machine.specs.Charts.{slotUsed, loadTests, startRow, startTests}
 use Rattle.machine.specs.Numbers.{slots, tableBytes, noDepth, noObject, noSlot}
-use Rattle.machine.specs.Reply.{FORM, AREA, RANGE, BUSY, ABSENT, TAKEN, TABLE, Areas, Answer, answer, badChart, lowest, over, unlessFault}
+use Rattle.machine.specs.Reply.{FORM, AREA, RANGE, BUSY, ABSENT, TAKEN, TABLE, lowest}
 use Rattle.machine.specs.State.{State, started, slotOf, isLoaded, isOpen}
 use Rattle.commands.specs.View.{stateOf}
 use Rattle.commands.specs.declared.Kernel.{Kernel}
@@ -38,62 +35,6 @@ module _ (s : State) (q : ℕ) where
   unfolding slotUsed
   used-below zero h e = absurd (not-suc-le-zero h)
   used-below (suc n) h e = rw e (let z : n ≡ suc n - 1 = omega arith in ap (slotUsed s q) z)
-
--- a class is one of 0 to 4
-pub class-most : (d : List ℕ) → classOf d ≤ 4
-unfolding classOf
-class-most d =
-    cond-all low (lengthOk d)
-    (cond-all low (formsOk (states d) d)
-    (cond-all low (treeOk (states d) d) (cond-all low (rowsOk (states d) d) (omega arith) (omega arith)) (omega arith)) (omega arith)) (omega arith)
-  where
-    low : ℕ → Type 0
-    low n = n ≤ 4
-
--- what LOAD answers to a refused chart, and to a good one
-module _ (s : State) (z : Areas) (a : Answer) where
-  pub fault-none : (c : ℕ) → c ≡ 0 → unlessFault c s z a ≡ a
-  unfolding unlessFault
-  fault-none c e = rw e refl
-
-  pub fault-some : (c : ℕ) → (c ≡ 0 → ⊥) → unlessFault c s z a ≡ answer s (badChart c) z
-  unfolding unlessFault
-  fault-some zero ne = absurd (ne refl)
-  fault-some (suc c) ne = refl
-
--- slot q, filled from the chart d, or left where that is refused
-module _ (q at n : ℕ) (d l : List ℕ) (h : q < slots) (e : length l ≡ tableBytes) (f : at ≡ slotSize * q) (g : n ≡ slotSize) where
-  abbrev slot : List ℕ
-  slot = take n (drop at l)
-
-  slot-long : length slot ≡ slotSize
-  slot-long = length-take-le n (drop at l) (rw length-drop (omega arith)) ∙ g
-
-  pub slot-class : flattened d slot .0 ≡ classOf d
-  unfolding flattened
-  slot-class =
-      cond-pick (λ (x : ℕ × List ℕ). x .0 ≡ classOf d) (eqb (classOf d) 0) _ (classOf d, slot)
-      (λ t. rw (eq-eqb (length slot) slotSize slot-long) (sym (eqb-true (classOf d) 0 t))) (λ t. refl)
-
-  pub slot-filled : classOf d ≡ 0 → take at l ++ (flattened d slot .1 ++ drop n (drop at l)) ≡ over l (slotSize * q) (slotBytes d)
-  unfolding over
-  slot-filled good =
-      let w : flattened d slot .1 ≡ slotBytes d = ap (λ p. p .1) (flattens d good slot slot-long) in
-      part-over at n l (flattened d slot .1) (ap length w ∙ slot-size d ∙ sym g) ∙ rw (w, f) refl
-
-  pub slot-left : (classOf d ≡ 0 → ⊥) → take at l ++ (flattened d slot .1 ++ drop n (drop at l)) ≡ l
-  unfolding flattened
-  slot-left bad = rw (ne-eqb (classOf d) 0 bad, take-append-drop n (drop at l)) (take-append-drop at l)
-
--- a row past the end of the tables, and one that ends with them
-module _ (l : List ℕ) (at : ℕ) where
-  pub row-past : length l ≤ at → [] ≡ rowAt l at
-  row-past h = rw (drop-of-length-le l h) refl
-
-  pub row-last : length l - at < rowSize → take (length l - at) (drop at l) ≡ rowAt l at
-  row-last h =
-      take-all (length l - at) (drop at l) (rw length-drop (omega arith))
-      ∙ sym (take-all rowSize (drop at l) (rw length-drop (omega arith)))
 
 -- LOAD.
 module _ (k : Kernel) (spoilt : Bool) (q n : ℕ) (l : List ℕ) where

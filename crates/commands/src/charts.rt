@@ -2,23 +2,20 @@
 ghost use mathlib.Core.Bool.{not, _&&_};
 ghost use mathlib.Core.List.{List};
 ghost use mathlib.Core.Path.{_≡_};
-ghost use Prim.Native.Nat.{ℕ, _*_, _<_, _≤_};
+ghost use Prim.Native.Nat.{ℕ, _<_, _≤_};
 ghost use lib.Dec.{eqb};
-ghost use lib.ListN.{length, set};
-ghost use Rattle.chart.specs.Chart.{classOf};
-ghost use Rattle.chart.specs.Flat.{slotBytes};
-ghost use Rattle.chart.specs.Numbers.{slotSize};
+ghost use lib.ListN.{set};
 ghost use Rattle.machine.specs.Charts as machine;
-ghost use Rattle.machine.specs.Charts.{slotUsed, startRow, startedAt};
-ghost use Rattle.machine.specs.Reply.{over};
+ghost use Rattle.machine.specs.Charts.{slotUsed, startedAt};
 ghost use Rattle.machine.specs.State.{isLoaded, withLoaded};
 ghost use Rattle.commands.specs.View.{answered, areas, stateOf};
 use super::Answered;
 use super::Kernel;
 use super::is_open;
 use super::refuse;
-use super::row_at;
 use ground::wide;
+use layout::fill_slot;
+use layout::start_row;
 use mail::of_object;
 use reply::refusals::load_refusal;
 use reply::refusals::start_refusal;
@@ -26,8 +23,6 @@ use reply::refusals::start_refusal;
 const OBJECTS: usize = 16;
 
 const SLOTS: usize = 4;
-
-const SLOT: usize = 16152;
 
 const TABLES: usize = 64608;
 
@@ -57,17 +52,6 @@ fn slot_used(k: Kernel, q: usize) -> bool
         n -= 1;
     }
     false
-}
-
-// Slot q is filled from a good chart; a refused one leaves it. The class of the chart's fault, or 0.
-fn fill_slot(q: usize, chart: &[u8], tables: &mut [u8]) -> u32
-    requires { ⌜ (q < 4) × (length (now tables) ≡ 64608) ⌝ }
-    ensures { λ r. ⌜ r ≡ classOf (now (chart .entry)) ⌝ }
-    ensures { λ r. ⌜ (r ≡ 0 → now (tables .exit) ≡ over (now (tables .entry)) (slotSize * q) (slotBytes (now (chart .entry)))) ⌝ }
-    ensures { λ r. ⌜ ((r ≡ 0 → ⊥) → now (tables .exit) ≡ now (tables .entry)) ⌝ }
-{
-    let at = SLOT * q;
-    chart::chart_flatten(chart, &mut tables[at..at + SLOT])
 }
 
 // Slot q has a chart.
@@ -113,16 +97,6 @@ fn is_loaded(k: Kernel, q: usize) -> bool
         return false;
     }
     loaded[q] == LOADED
-}
-
-// The start row of slot q, as much of it as there is.
-fn start_row<'a>(tables: &'a [u8], q: usize) -> &'a [u8]
-    ensures { λ r. ⌜ now r ≡ startRow (now (tables .entry)) q ⌝ }
-{
-    if tables.len() / SLOT < q {
-        return &tables[0..0];
-    }
-    row_at(tables, SLOT * q)
 }
 
 // Object p is started.

@@ -9,7 +9,6 @@ pub mod subscriptions;
 ghost use mathlib.Core.Path.{_≡_};
 ghost use Prim.Native.Nat.{_-_, _<_, _≤_};
 ghost use lib.ListN.{getD, length};
-ghost use Rattle.chart.specs.Flat.{rowAt};
 ghost use Rattle.machine.specs.Reply.{no, replyOf};
 ghost use Rattle.machine.specs.State.{freshState};
 ghost use Rattle.machine.specs.State as state;
@@ -17,8 +16,6 @@ ghost use Rattle.mail.specs.Box as box;
 ghost use Rattle.commands.specs.View.{Good, stateOf};
 use mail::Hand;
 use pool::Pool;
-
-const ROW: usize = 24;
 
 pub struct Kernel {
     pool: Pool,
@@ -89,18 +86,4 @@ fn is_open(h: Hand) -> bool
         Hand::Block(_) => true,
         Hand::Timer(_, _) => true,
     }
-}
-
-// The row at a place of the tables, as much of it as there is.
-fn row_at<'a>(tables: &'a [u8], at: usize) -> &'a [u8]
-    ensures { λ r. ⌜ now r ≡ rowAt (now (tables .entry)) at ⌝ }
-{
-    let n = tables.len();
-    if n < at {
-        return &tables[0..0];
-    }
-    if n - at < ROW {
-        return &tables[at..n];
-    }
-    &tables[at..at + ROW]
 }

@@ -3,11 +3,10 @@ ghost use mathlib.Core.List.{List};
 ghost use mathlib.Core.Path.{_≡_};
 ghost use Prim.Native.Nat.{ℕ, _+_, _<_, _≤_};
 ghost use lib.ListN.{getD, length};
-ghost use Rattle.ground.specs.Bytes.{padded};
 ghost use Rattle.machine.specs.Events as machine;
 ghost use Rattle.machine.specs.Events.{newEvent, newIn, payloadOf, readPart, readTests};
-ghost use Rattle.machine.specs.Numbers.{capacity, placeOf};
-ghost use Rattle.machine.specs.Reply.{lowest, over};
+ghost use Rattle.machine.specs.Numbers.{placeOf};
+ghost use Rattle.machine.specs.Reply.{lowest};
 ghost use Rattle.pool.specs.Cell.{handedOut};
 ghost use Rattle.pool.specs.Row.{changed};
 ghost use Rattle.pool.specs.View.{cells};
@@ -17,58 +16,14 @@ use super::Answered;
 use super::Kernel;
 use super::refuse;
 use ground::wide;
+use layout::place_of;
+use layout::put_payload;
 use pool::Found;
 use pool::Pool;
 use reply::refusals::new_refusal;
 use reply::refusals::read_refusal;
 
 const PAYLOADS: usize = 1536;
-
-// The first block of 32 bytes and the first of 64, and where these begin in the payload area.
-const MIDDLE: usize = 32;
-
-const LARGE: usize = 48;
-
-const MIDDLE_PLACE: usize = 512;
-
-const LARGE_PLACE: usize = 1024;
-
-// How many bytes block b holds.
-fn capacity_of(b: usize) -> usize
-    ensures { λ r. ⌜ (r ≡ capacity b) × (r ≤ 64) ⌝ }
-{
-    if b < MIDDLE {
-        return 16;
-    }
-    if b < LARGE {
-        return 32;
-    }
-    64
-}
-
-// Where block b begins in the payload area.
-fn place_of(b: usize) -> usize
-    requires { ⌜ b < 56 ⌝ }
-    ensures { λ r. ⌜ (r ≡ placeOf b) × (r < 1536) ⌝ }
-{
-    if b < MIDDLE {
-        return 16 * b;
-    }
-    if b < LARGE {
-        return MIDDLE_PLACE + 32 * (b - MIDDLE);
-    }
-    LARGE_PLACE + 64 * (b - LARGE)
-}
-
-// The payload goes to the place of block b; the rest of the block is 0.
-fn put_payload(b: usize, payload: &[u8], payloads: &mut [u8])
-    requires { ⌜ (b < 56) × (length (now payloads) ≡ 1536) ⌝ }
-    ensures { λ _. ⌜ now (payloads .exit) ≡ over (now (payloads .entry)) (placeOf b) (padded (capacity b) (now (payload .entry))) ⌝ }
-{
-    let at = place_of(b);
-    let e = at + capacity_of(b);
-    ground::fill(&mut payloads[at..e], payload);
-}
 
 // The event in block b, which the pool has handed out: its signal, its size, no holds.
 fn new_event(k: Kernel, pool: Pool, b: usize, g: u8, size: u8) -> Kernel

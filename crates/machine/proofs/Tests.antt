@@ -72,6 +72,16 @@ module _ (s : State) (z : Areas) (a : Answer) where
   unless-some zero ne = absurd (ne refl)
   unless-some (suc n) ne = refl
 
+  -- LOAD: to a good chart, and to a refused one
+  pub fault-none : (c : ℕ) → c ≡ 0 → unlessFault c s z a ≡ a
+  unfolding unlessFault
+  fault-none c e = rw e refl
+
+  pub fault-some : (c : ℕ) → (c ≡ 0 → ⊥) → unlessFault c s z a ≡ answer s (badChart c) z
+  unfolding unlessFault
+  fault-some zero ne = absurd (ne refl)
+  fault-some (suc c) ne = refl
+
   module _ (P : Answer → Type 0) where
     pub unless-pick : (n : ℕ) → ((k : ℕ) → n ≡ suc k → P (answer s (no (suc k)) z)) → (n ≡ 0 → P a) → P (unless n s z a)
     unfolding unless

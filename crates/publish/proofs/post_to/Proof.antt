@@ -21,11 +21,13 @@ returns-2 : tie.Need-returns-2
 unfolding posted entryOf
 returns-2 c =
     let h = c .before .push-back .ensures .0 in
-    let t = c .before .before .before .before in
-    (h .mail, (
-      λ q. others-stay (t .before .args .counts .now) _ (t .before .args .p - 1) (c .before .push-back .ensures .1) q,
-      λ s. rw (c .add .ensures, h .are, not-false (t .before .args .receives) (t .if1 .left)) refl,
-    ))
+    let t = c .before .before .before .before in (
+      h .mail,
+      (
+        λ q. others-stay (t .before .args .counts .now) _ (t .before .args .p - 1) (c .before .push-back .ensures .1) q,
+        λ s. rw (c .add .ensures, h .are, not-false (t .before .args .receives) (t .if1 .left)) refl,
+      ),
+    )
 
 pub post-to-spec : {M : Type 1} → statement M
 post-to-spec =

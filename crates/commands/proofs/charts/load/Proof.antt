@@ -3,13 +3,14 @@ use mathlib.Core.Path.{_≡_, refl, sym, _∙_}
 use Prim.Native.Nat.{_<_}
 use native.Mathlib.Omega.{arith}
 use lib.ListN.{length}
-use Rattle.chart.proofs.Accepted.{few-states}
+use Rattle.chart.proofs.Accepted.{class-most, few-states}
+use Rattle.machine.proofs.Tests.{fault-none, fault-some}
 use Rattle.machine.specs.Charts.{load, loadTests}
 use Rattle.machine.specs.Numbers.{slots, tableBytes}
 use Rattle.machine.specs.Reply.{lowest}
 use Rattle.commands.specs.View.{areas, answered, stateOf}
 use Rattle.commands.proofs.Glue.{refusal, writing}
-use Rattle.commands.proofs.Slots.{class-most, fault-none, fault-some, load-tests, load-allowed}
+use Rattle.commands.proofs.Slots.{load-tests, load-allowed}
 use Rattle.commands.proofs.charts.load.Statement.{statement}
 use Rattle.commands.proofs.charts.load.Tie as tie
 

@@ -4,9 +4,9 @@ use Prim.Native.Nat.{_+_, _-_}
 use native.Mathlib.Omega.{arith}
 use Rattle.machine.proofs.Blocks.{place-end}
 use Rattle.machine.specs.Numbers.{capacity}
-use Rattle.commands.proofs.Blocks.{put-over}
-use Rattle.commands.proofs.payloads.put_payload.Statement.{statement}
-use Rattle.commands.proofs.payloads.put_payload.Tie as tie
+use Rattle.layout.proofs.Places.{put-over}
+use Rattle.layout.proofs.put_payload.Statement.{statement}
+use Rattle.layout.proofs.put_payload.Tie as tie
 
 part-fill-end : tie.Need-part-fill-end
 part-fill-end c =

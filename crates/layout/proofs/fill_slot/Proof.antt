@@ -3,9 +3,9 @@ use mathlib.Core.Path.{_≡_, refl, sym, _∙_}
 use Prim.Native.Nat.{_+_, _*_, _-_}
 use native.Mathlib.Omega.{arith}
 use Rattle.chart.specs.Flat.{flattened}
-use Rattle.commands.proofs.Slots.{slot-class, slot-filled, slot-left}
-use Rattle.commands.proofs.charts.fill_slot.Statement.{statement}
-use Rattle.commands.proofs.charts.fill_slot.Tie as tie
+use Rattle.layout.proofs.Places.{slot-class, slot-filled, slot-left}
+use Rattle.layout.proofs.fill_slot.Statement.{statement}
+use Rattle.layout.proofs.fill_slot.Tie as tie
 
 returns : tie.Need-returns
 returns c =
@@ -17,8 +17,10 @@ returns c =
     let l = s .args .tables .now in
     let class = f .0 ∙ slot-class (s .args .q) at (at + 16152 - at) d l (s .pre .0) (s .pre .1) refl n in (
       class,
-      (λ e. rw (f .1) (slot-filled (s .args .q) at (at + 16152 - at) d l (s .pre .0) (s .pre .1) refl n (sym class ∙ e)),
-      λ ne. rw (f .1) (slot-left (s .args .q) at (at + 16152 - at) d l (s .pre .0) (s .pre .1) refl n (λ e. ne (class ∙ e)))),
+      (
+        λ e. rw (f .1) (slot-filled (s .args .q) at (at + 16152 - at) d l (s .pre .0) (s .pre .1) refl n (sym class ∙ e)),
+        λ ne. rw (f .1) (slot-left (s .args .q) at (at + 16152 - at) d l (s .pre .0) (s .pre .1) refl n (λ e. ne (class ∙ e))),
+      ),
     )
 
 pub fill-slot-spec : {M : Type 1} → statement M

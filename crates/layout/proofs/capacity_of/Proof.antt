@@ -1,8 +1,8 @@
 use borrow.Author.Needs.{needs}
 use borrow.Author.Tests.{lt-ltb, le-ltb}
 use Rattle.machine.specs.Numbers.{capacity}
-use Rattle.commands.proofs.payloads.capacity_of.Statement.{statement}
-use Rattle.commands.proofs.payloads.capacity_of.Tie as tie
+use Rattle.layout.proofs.capacity_of.Statement.{statement}
+use Rattle.layout.proofs.capacity_of.Tie as tie
 
 returns : tie.Need-returns
 unfolding capacity

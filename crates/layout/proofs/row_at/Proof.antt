@@ -2,9 +2,9 @@ use borrow.Author.Needs.{needs}
 use mathlib.Core.Path.{_≡_, refl}
 use Prim.Native.Nat.{_+_, _-_}
 use native.Mathlib.Omega.{arith}
-use Rattle.commands.proofs.Slots.{row-past, row-last}
-use Rattle.commands.proofs.row_at.Statement.{statement}
-use Rattle.commands.proofs.row_at.Tie as tie
+use Rattle.layout.proofs.Places.{row-past, row-last}
+use Rattle.layout.proofs.row_at.Statement.{statement}
+use Rattle.layout.proofs.row_at.Tie as tie
 
 returns : tie.Need-returns
 returns c = row-past (c .before .before .args .tables .now) (c .before .before .args .at) (omega (arith, c .before .if1 .taken))

@@ -1,8 +1,8 @@
 use borrow.Author.Needs.{needs}
 use borrow.Author.Tests.{lt-ltb, le-ltb}
 use Rattle.machine.specs.Numbers.{placeOf}
-use Rattle.commands.proofs.payloads.place_of.Statement.{statement}
-use Rattle.commands.proofs.payloads.place_of.Tie as tie
+use Rattle.layout.proofs.place_of.Statement.{statement}
+use Rattle.layout.proofs.place_of.Tie as tie
 
 returns : tie.Need-returns
 unfolding placeOf

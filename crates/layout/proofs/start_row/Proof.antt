@@ -2,9 +2,9 @@ use borrow.Author.Needs.{needs}
 use Prim.Native.Nat.{_*_}
 use native.Mathlib.Omega.{arith}
 use Rattle.machine.specs.Charts.{startRow}
-use Rattle.commands.proofs.Slots.{row-past}
-use Rattle.commands.proofs.charts.start_row.Statement.{statement}
-use Rattle.commands.proofs.charts.start_row.Tie as tie
+use Rattle.layout.proofs.Places.{row-past}
+use Rattle.layout.proofs.start_row.Statement.{statement}
+use Rattle.layout.proofs.start_row.Tie as tie
 
 returns : tie.Need-returns
 unfolding startRow
