@@ -8,6 +8,7 @@
 //     TOP 1 10 · STATE 0 11 12 2 13 · ROW 1 5 1 1 15     the records of a chart, of 8 bytes
 //     19 1 2                                  a number for a name: a command record of just these bytes, then 0
 //     PIECE 16 0                              as many bytes as are given
+//     FRESH                                   no record, but a mark: here a trace begins
 ghost use Prim.Native.Nat.{_≤_};
 use check::same;
 use input::Letter;
@@ -242,11 +243,16 @@ fn with_number(record: Record, number: u32) -> Record {
     with_byte(record, at, number as u8)
 }
 
+// Whether no word was read yet; of a whole line, whether it has no record.
+pub fn is_none(record: Record) -> bool {
+    record.name == 0 && record.size == 0
+}
+
 fn with_word(record: Record, word: Word) -> Record {
     if record.is_wrong {
         return record;
     }
-    if record.name == 0 && record.size == 0 {
+    if is_none(record) {
         return begin(word);
     }
     if word.is_number {

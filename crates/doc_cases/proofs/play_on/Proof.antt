@@ -1,0 +1,38 @@
+-- The kernel stays good, the areas keep their lengths; the measure is the number of turns that are left.
+use mathlib.Core.Path.{_≡_}
+use lib.ListN.{length}
+use borrow.Author.Needs.{needs}
+use Rattle.commands.specs.View.{Good}
+use Rattle.doc_cases.proofs.play_on.Statement.{statement}
+use Rattle.doc_cases.proofs.play_on.Tie as tie
+
+abbrev Inv-loop : tie.InvT-loop
+Inv-loop payloads₀ tables₀ log₀ run₀ turns₀ payloads tables log run turns =
+    (Good (run .kernel))
+    × (length payloads ≡ length payloads₀)
+    × (length tables ≡ length tables₀)
+    × (length log ≡ length log₀)
+
+abbrev μ-loop : tie.MeasureT-loop
+μ-loop payloads₀ tables₀ log₀ run₀ turns₀ payloads tables log run turns = turns
+
+pub play-on-spec : {M : Type 1} → statement M
+play-on-spec =
+    tie.close
+    (tie.spec
+    Inv-loop
+    μ-loop
+    (λ c κs. search needs)
+    (λ c. search needs)
+    (λ c κs. search needs)
+    (λ c. search needs)
+    (λ c. search needs)
+    (λ c. search needs)
+    (λ c. search needs)
+    (λ c. search needs)
+    (λ c. search needs)
+    (λ c. search needs)
+    (λ c. search needs)
+    (λ c. search needs)
+    (λ c. search needs)
+    (λ c. search needs))
