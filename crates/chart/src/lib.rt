@@ -10,8 +10,11 @@ ghost use Rattle.chart.specs.Flat.{flattened, place, sound};
 use faults::*;
 use ground::blank;
 use ground::wide;
+use numbers::ACTIONS_IN_ROW;
+use numbers::MOST_ACTIONS;
+use numbers::ROW_BYTES;
+use numbers::SLOT_BYTES;
 use read::*;
-use step::MOST_ACTIONS;
 use table::*;
 
 // The class of a chart's fault, the lowest that applies; 0 for a good chart.
@@ -41,7 +44,7 @@ pub extern "C" fn chart_flatten(chart: &[u8], table: &mut [u8]) -> u32
     if class != 0 {
         return class;
     }
-    if table.len() != SLOT {
+    if table.len() != SLOT_BYTES {
         return 5;
     }
     fill_table(chart, table);
@@ -59,14 +62,14 @@ pub fn chart_states(chart: &[u8]) -> usize
 pub fn row_place(s: u8, g: u8) -> usize
     ensures { λ r. ⌜ r ≡ place s g ⌝ }
 {
-    ROW + ROW * row_number(s, g)
+    ROW_BYTES + ROW_BYTES * row_number(s, g)
 }
 
 // Whether a row is sound.
 pub fn sound(row: &[u8]) -> bool
     ensures { λ r. ⌜ r ≡ sound (now (row .entry)) ⌝ }
 {
-    if row.len() != ROW {
+    if row.len() != ROW_BYTES {
         return false;
     }
     if !is_among(MOST_STATES, row[0]) {
@@ -79,5 +82,5 @@ pub fn sound(row: &[u8]) -> bool
     if MOST_ACTIONS < count {
         return false;
     }
-    blank(row, ACTIONS + count, ROW)
+    blank(row, ACTIONS_IN_ROW + count, ROW_BYTES)
 }

@@ -10,15 +10,10 @@ ghost use Rattle.chart.specs.Numbers.{firstSignal, lastSignal, longest, 
 ghost use Rattle.chart.specs.Step.{source, step};
 use super::read::*;
 use super::step::*;
+use numbers::ACTIONS_IN_ROW;
+use numbers::ROW_BYTES;
 
-// Bytes of a slot.
-pub const SLOT: usize = 16152;
-
-// Bytes of a row, where its actions begin, and where its three zeros.
-pub const ROW: usize = 24;
-
-pub const ACTIONS: usize = 3;
-
+// Where the three zeros of a row begin.
 const ZEROS: usize = 21;
 
 // Signals, and rows behind the start row.
@@ -173,7 +168,7 @@ fn row_byte(r: Out, j: usize) -> u8
     if ZEROS <= j {
         return 0;
     }
-    let i = j - ACTIONS;
+    let i = j - ACTIONS_IN_ROW;
     acts.a[i]
 }
 
@@ -183,7 +178,7 @@ fn write_row(part: &mut [u8], r: Out)
     ensures { λ _. ⌜ now (part .exit) ≡ rowBytes r ++ drop rowSize (now (part .entry)) ⌝ }
 {
     let mut j: usize = 0;
-    while j < ROW {
+    while j < ROW_BYTES {
         part[j] = row_byte(r, j);
         j += 1;
     }
@@ -199,7 +194,7 @@ pub fn fill_table(chart: &[u8], table: &mut [u8])
     write_row(table, start_of(chart));
     let mut k: usize = 0;
     while k < ROWS {
-        let at = ROW * k + ROW;
+        let at = ROW_BYTES * k + ROW_BYTES;
         write_row(&mut table[at..], row_no(chart, &index, n, k));
         k += 1;
     }

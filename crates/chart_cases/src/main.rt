@@ -6,12 +6,10 @@ ghost use Prim.Native.Nat.{_≤_};
 ghost use lib.ListN.{length};
 use input::low_byte_first;
 use input::read_exactly;
+use numbers::ROW_BYTES;
+use numbers::SLOT_BYTES;
 use text::sum_of;
 use text::wide;
-
-const SLOT_BYTES: usize = 16152;
-
-const ROW_BYTES: usize = 24;
 
 // More than any chart that is good, for charts that are too long.
 const BUFFER_BYTES: usize = 11200;

@@ -17,14 +17,11 @@ use ground::wide;
 use layout::fill_slot;
 use layout::start_row;
 use mail::of_object;
+use numbers::OBJECTS;
+use numbers::SLOTS;
+use numbers::TABLE_AREA;
 use reply::refusals::load_refusal;
 use reply::refusals::start_refusal;
-
-const OBJECTS: usize = 16;
-
-const SLOTS: usize = 4;
-
-const TABLES: usize = 64608;
 
 const LOADED: u8 = 1;
 
@@ -70,7 +67,7 @@ pub fn load(k: Kernel, spoilt: bool, q: usize, chart: &[u8], tables: &mut [u8]) 
         ≡ machine.load spoilt q (now (chart .entry)) (stateOf k) (areas p (now (tables .entry)) l)) ⌝ }
 {
     let held = k.hand;
-    let bad = tables.len() != TABLES;
+    let bad = tables.len() != TABLE_AREA;
     let no = load_refusal(spoilt, bad, q, is_open(held), slot_used(k, q));
     if no != 0 {
         return refuse(k, no);
@@ -121,7 +118,7 @@ pub fn start(k: Kernel, spoilt: bool, p: usize, q: usize, depth: usize, tables: 
     let row = start_row(tables, q);
     let no = start_refusal(
         spoilt,
-        tables.len() != TABLES,
+        tables.len() != TABLE_AREA,
         p,
         q,
         depth,

@@ -11,14 +11,13 @@ use super::Kernel;
 use super::refuse;
 use ground::one;
 use mail::of_object;
-use reply::refusals::FORM;
+use numbers::TIMERS;
+use numbers::answer::FORM;
 use reply::refusals::arm_refusal;
 use reply::refusals::disarm_refusal;
 
-const TIMERS: usize = 16;
-
 // The ticks that are left of timer t; 0 where there is no such timer.
-fn counter_of(counters: &[u16; 16], t: usize) -> u16
+fn counter_of(counters: &[u16; TIMERS], t: usize) -> u16
     requires { ⌜ length (now counters) ≡ 16 ⌝ }
     ensures { λ r. ⌜ r ≡ getD (now (counters .entry)) t 0 ⌝ }
 {

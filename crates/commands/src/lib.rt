@@ -15,31 +15,38 @@ ghost use Rattle.machine.specs.State as state;
 ghost use Rattle.mail.specs.Box as box;
 ghost use Rattle.commands.specs.View.{Good, stateOf};
 use mail::Hand;
+use numbers::ALL_PLACES;
+use numbers::ALL_SIGNAL_PLACES;
+use numbers::BLOCKS;
+use numbers::OBJECTS;
+use numbers::REPLY_BYTES;
+use numbers::SLOTS;
+use numbers::TIMERS;
 use pool::Pool;
 
 pub struct Kernel {
     pool: Pool,
-    signals: [u8; 56],
-    sizes: [u8; 56],
-    holds: [u8; 56],
-    places: [u16; 256],
-    heads: [u8; 16],
-    counts: [u8; 16],
-    depths: [u8; 16],
-    rests: [u8; 16],
-    seats: [u8; 16],
-    wants: [u8; 512],
-    loaded: [u8; 4],
-    owners: [u8; 16],
-    alarms: [u8; 16],
-    counters: [u16; 16],
-    intervals: [u16; 16],
+    signals: [u8; BLOCKS],
+    sizes: [u8; BLOCKS],
+    holds: [u8; BLOCKS],
+    places: [u16; ALL_PLACES],
+    heads: [u8; OBJECTS],
+    counts: [u8; OBJECTS],
+    depths: [u8; OBJECTS],
+    rests: [u8; OBJECTS],
+    seats: [u8; OBJECTS],
+    wants: [u8; ALL_SIGNAL_PLACES],
+    loaded: [u8; SLOTS],
+    owners: [u8; TIMERS],
+    alarms: [u8; TIMERS],
+    counters: [u16; TIMERS],
+    intervals: [u16; TIMERS],
     hand: Hand,
 }
 
 pub struct Answered {
     pub kernel: Kernel,
-    pub reply: [u8; 24],
+    pub reply: [u8; REPLY_BYTES],
 }
 
 pub fn fresh() -> Kernel
@@ -48,21 +55,21 @@ pub fn fresh() -> Kernel
 {
     Kernel {
         pool: pool::fresh(),
-        signals: [0; 56],
-        sizes: [0; 56],
-        holds: [0; 56],
-        places: [0; 256],
-        heads: [0; 16],
-        counts: [0; 16],
-        depths: [0; 16],
-        rests: [0; 16],
-        seats: [0; 16],
-        wants: [0; 512],
-        loaded: [0; 4],
-        owners: [0; 16],
-        alarms: [0; 16],
-        counters: [0; 16],
-        intervals: [0; 16],
+        signals: [0; BLOCKS],
+        sizes: [0; BLOCKS],
+        holds: [0; BLOCKS],
+        places: [0; ALL_PLACES],
+        heads: [0; OBJECTS],
+        counts: [0; OBJECTS],
+        depths: [0; OBJECTS],
+        rests: [0; OBJECTS],
+        seats: [0; OBJECTS],
+        wants: [0; ALL_SIGNAL_PLACES],
+        loaded: [0; SLOTS],
+        owners: [0; TIMERS],
+        alarms: [0; TIMERS],
+        counters: [0; TIMERS],
+        intervals: [0; TIMERS],
         hand: Hand::Nothing,
     }
 }

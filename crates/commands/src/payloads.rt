@@ -18,12 +18,11 @@ use super::refuse;
 use ground::wide;
 use layout::place_of;
 use layout::put_payload;
+use numbers::PAYLOAD_AREA;
 use pool::Found;
 use pool::Pool;
 use reply::refusals::new_refusal;
 use reply::refusals::read_refusal;
-
-const PAYLOADS: usize = 1536;
 
 // The event in block b, which the pool has handed out: its signal, its size, no holds.
 fn new_event(k: Kernel, pool: Pool, b: usize, g: u8, size: u8) -> Kernel
@@ -75,7 +74,7 @@ pub fn new(
         ≡ machine.new spoilt g size (now (payload .entry)) (stateOf k) (areas (now (payloads .entry)) t l)) ⌝ }
 {
     let n = wide(size);
-    let bad = payloads.len() != PAYLOADS;
+    let bad = payloads.len() != PAYLOAD_AREA;
     let taken = pool::take(k.pool, n);
     let found = taken.found;
     match found {
@@ -95,7 +94,7 @@ fn read_no(k: Kernel, spoilt: bool, b: usize, generation: u8, payloads: &[u8]) -
     ensures { λ r. ⌜ r ≡ lowest (readTests spoilt b generation (stateOf k) (now (payloads .entry))) ⌝ }
 {
     let stale = pool::stale(k.pool, b, generation);
-    read_refusal(spoilt, payloads.len() != PAYLOADS, b, stale)
+    read_refusal(spoilt, payloads.len() != PAYLOAD_AREA, b, stale)
 }
 
 // The payload of block b: the part of the payload area that it occupies.

@@ -23,19 +23,15 @@ use drain::Coming;
 use ground::one;
 use ground::wide;
 use mail::Hand;
+use numbers::LOG_AREA;
+use numbers::MOST_STEPS;
+use numbers::ROW_BYTES;
+use numbers::TABLE_AREA;
+use numbers::answer::TABLE;
 use reply::first;
-use reply::refusals::TABLE;
 use reply::refusals::drain_refusal;
 use reply::refusals::end_refusal;
 use reply::refusals::next_refusal;
-
-const TABLES: usize = 64608;
-
-const LOG: usize = 6120;
-
-const ROW: usize = 24;
-
-const MOST_STEPS: usize = 255;
 
 // DRAIN's second value: nothing is queued, or it stopped below its budget.
 const ALL_DONE: u8 = 1;
@@ -142,14 +138,14 @@ pub fn next(k: Kernel, spoilt: bool, tables: &[u8]) -> Answered
     let hand = k.hand;
     let counts = k.counts;
     let p = mail::highest(&counts);
-    let bad = tables.len() != TABLES;
+    let bad = tables.len() != TABLE_AREA;
     let no = next_refusal(spoilt, bad, is_open(hand), p, true);
     if no != 0 {
         return refuse(k, no);
     }
     let l = coming(k, p);
     let at = l.at;
-    let row = &tables[at..at + ROW];
+    let row = &tables[at..at + ROW_BYTES];
     if !chart::sound(row) {
         return refuse(k, TABLE);
     }
@@ -240,8 +236,8 @@ pub fn drain(k: Kernel, spoilt: bool, budget: usize, tables: &[u8], log: &mut [u
         ≡ machine.drain spoilt budget (stateOf k) (areas p (now (tables .entry)) (now (log .entry)))) ⌝ }
 {
     let hand = k.hand;
-    let bad_tables = tables.len() != TABLES;
-    let bad_log = log.len() != LOG;
+    let bad_tables = tables.len() != TABLE_AREA;
+    let bad_log = log.len() != LOG_AREA;
     let no = drain_refusal(spoilt, bad_tables, bad_log, is_open(hand));
     if no != 0 {
         return refuse(k, no);

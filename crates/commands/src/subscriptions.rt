@@ -9,12 +9,11 @@ use super::Kernel;
 use super::refuse;
 use ground::one;
 use mail::of_object;
+use numbers::SIGNAL_PLACES;
 use publish::subscribes;
 use reply::refusals::subscribe_refusal;
 
 // Each object has a place for each number below 32.
-const SIGNALS: usize = 32;
-
 const SUBSCRIBED: u8 = 1;
 
 const NOT_SUBSCRIBED: u8 = 0;
@@ -25,7 +24,7 @@ fn wanting(k: Kernel, p: usize, g: usize, v: u8) -> Kernel
     ensures { λ r. ⌜ stateOf r ≡ machine.wanting (stateOf k) p g v ⌝ }
 {
     let mut next = k;
-    next.wants[SIGNALS * (p - 1) + g] = v;
+    next.wants[SIGNAL_PLACES * (p - 1) + g] = v;
     next
 }
 

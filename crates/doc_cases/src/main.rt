@@ -7,9 +7,9 @@
 ghost use Prim.Native.Nat.{_≤_};
 ghost use Rattle.commands.specs.View.{Good};
 use kernel::Kernel;
-use player::LOG_BYTES;
-use player::PAYLOADS_BYTES;
-use player::TABLES_BYTES;
+use numbers::LOG_AREA;
+use numbers::PAYLOAD_AREA;
+use numbers::TABLE_AREA;
 use text::Line;
 use words::Record;
 
@@ -95,9 +95,9 @@ fn play_on(payloads: &mut [u8], tables: &mut [u8], log: &mut [u8]) -> bool {
 
 // Plays a trace, and answers whether another follows.
 fn play_trace() -> bool {
-    let mut payloads = [0u8; PAYLOADS_BYTES];
-    let mut tables = [0u8; TABLES_BYTES];
-    let mut log = [0u8; LOG_BYTES];
+    let mut payloads = [0u8; PAYLOAD_AREA];
+    let mut tables = [0u8; TABLE_AREA];
+    let mut log = [0u8; LOG_AREA];
     play_on(&mut payloads, &mut tables, &mut log)
 }
 

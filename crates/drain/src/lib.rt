@@ -14,12 +14,13 @@ ghost use Rattle.drain.specs.Turn.{Acts, Generations, Looks, Runs, Sized
 use ground::fill;
 use ground::wide;
 use mail::Hand;
-
-const SLOT: usize = 16152;
-
-const ROW: usize = 24;
-
-const LINE: usize = 24;
+use numbers::ALL_PLACES;
+use numbers::BLOCKS;
+use numbers::MOST_STEPS;
+use numbers::OBJECTS;
+use numbers::REPLY_BYTES;
+use numbers::ROW_BYTES;
+use numbers::SLOT_BYTES;
 
 // What NEXT answers for a timer: 128 + t, then 0.
 const TIMER: u8 = 128;
@@ -34,7 +35,7 @@ pub struct Coming {
     pub at: usize,
 }
 
-fn signal_of(signals: &[u8; 56], h: Hand) -> u8
+fn signal_of(signals: &[u8; BLOCKS], h: Hand) -> u8
     requires { ⌜ IsEvent h ⌝ }
     ensures { λ r. ⌜ ((s : State) → s .events .signals ≡ now (signals .entry) → r ≡ signalOf s h) ⌝ }
 {
@@ -60,7 +61,7 @@ fn first_value(h: Hand) -> u8
     }
 }
 
-fn second_value(gens: &[u8; 56], h: Hand) -> u8
+fn second_value(gens: &[u8; BLOCKS], h: Hand) -> u8
     requires { ⌜ IsEvent h ⌝ }
     ensures { λ r. ⌜ ((s : State) → Generations s (now (gens .entry)) → r ≡ handle₂ s h) ⌝ }
 {
@@ -86,18 +87,18 @@ pub fn block_of(h: Hand) -> u8
 }
 
 // The event of an entry, for an object that rests in a state, on a slot.
-pub fn look(signals: &[u8; 56], e: u16, rest: u8, seat: u8) -> Coming
+pub fn look(signals: &[u8; BLOCKS], e: u16, rest: u8, seat: u8) -> Coming
     requires { ⌜ IsEvent (handOf e) ⌝ }
     ensures { λ r. ⌜ ((s : State) → s .events .signals ≡ now (signals .entry) → Looks s e rest seat r) ⌝ }
 {
     let hand = mail::hand_of(e);
     let signal = signal_of(signals, hand);
-    let at = SLOT * wide(seat) + chart::row_place(rest, signal);
+    let at = SLOT_BYTES * wide(seat) + chart::row_place(rest, signal);
     Coming { hand, signal, at }
 }
 
 // NEXT's answer: object p takes a row.
-pub fn answer(p: usize, l: Coming, gens: &[u8; 56], row: &[u8]) -> [u8; 24]
+pub fn answer(p: usize, l: Coming, gens: &[u8; BLOCKS], row: &[u8]) -> [u8; REPLY_BYTES]
     requires { ⌜ Runs p l (now row) ⌝ }
     ensures { λ r. ⌜ ((s : State) → Generations s (now (gens .entry)) →
         r ≡ replyOf (ran p (l .signal) (handle₁ (l .hand)) (handle₂ s (l .hand)) (now (row .entry)))) ⌝ }
@@ -110,12 +111,12 @@ pub fn answer(p: usize, l: Coming, gens: &[u8; 56], row: &[u8]) -> [u8; 24]
 
 // Object q takes a row with the event l, as step n of a run.
 fn take_step(
-    places: &[u16; 256],
-    heads: &mut [u8; 16],
-    counts: &mut [u8; 16],
-    rests: &mut [u8; 16],
-    gens: &[u8; 56],
-    gone: &mut [u8; 255],
+    places: &[u16; ALL_PLACES],
+    heads: &mut [u8; OBJECTS],
+    counts: &mut [u8; OBJECTS],
+    rests: &mut [u8; OBJECTS],
+    gens: &[u8; BLOCKS],
+    gone: &mut [u8; MOST_STEPS],
     log: &mut [u8],
     row: &[u8],
     q: usize,
@@ -133,19 +134,22 @@ fn take_step(
     mail::take_front(places, heads, counts, q);
     rests[q] = row[0];
     gone[n] = block_of(hand);
-    fill(&mut log[LINE * n..LINE * n + LINE], &line);
+    fill(
+        &mut log[REPLY_BYTES * n..REPLY_BYTES * n + REPLY_BYTES],
+        &line,
+    );
 }
 
 // One turn of DRAIN, as step n: whether a step is taken. Where nothing is queued, or the row is unsound, nothing changes.
 fn drain_step(
-    places: &[u16; 256],
-    heads: &mut [u8; 16],
-    counts: &mut [u8; 16],
-    rests: &mut [u8; 16],
-    seats: &[u8; 16],
-    signals: &[u8; 56],
-    gens: &[u8; 56],
-    gone: &mut [u8; 255],
+    places: &[u16; ALL_PLACES],
+    heads: &mut [u8; OBJECTS],
+    counts: &mut [u8; OBJECTS],
+    rests: &mut [u8; OBJECTS],
+    seats: &[u8; OBJECTS],
+    signals: &[u8; BLOCKS],
+    gens: &[u8; BLOCKS],
+    gone: &mut [u8; MOST_STEPS],
     tables: &[u8],
     log: &mut [u8],
     n: usize,
@@ -167,7 +171,7 @@ fn drain_step(
     let e = mail::front(places, heads, counts, q);
     let l = look(signals, e, rests[q], seats[q]);
     let at = l.at;
-    let row = &tables[at..at + ROW];
+    let row = &tables[at..at + ROW_BYTES];
     if !chart::sound(row) {
         return false;
     }
@@ -177,14 +181,14 @@ fn drain_step(
 
 // DRAIN's steps, at most as many as the budget: how many were taken. The blocks to let go are noted, in order.
 pub fn run(
-    places: &[u16; 256],
-    heads: &mut [u8; 16],
-    counts: &mut [u8; 16],
-    rests: &mut [u8; 16],
-    seats: &[u8; 16],
-    signals: &[u8; 56],
-    gens: &[u8; 56],
-    gone: &mut [u8; 255],
+    places: &[u16; ALL_PLACES],
+    heads: &mut [u8; OBJECTS],
+    counts: &mut [u8; OBJECTS],
+    rests: &mut [u8; OBJECTS],
+    seats: &[u8; OBJECTS],
+    signals: &[u8; BLOCKS],
+    gens: &[u8; BLOCKS],
+    gone: &mut [u8; MOST_STEPS],
     tables: &[u8],
     log: &mut [u8],
     budget: usize,

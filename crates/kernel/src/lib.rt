@@ -7,7 +7,9 @@ ghost use Rattle.machine.specs.Machine.{answerTo, partOf};
 ghost use Rattle.machine.specs.State.{freshState};
 pub use commands::Answered;
 pub use commands::Kernel;
-use reply::refusals::FORM;
+use numbers::RECORD_BYTES;
+use numbers::answer::FORM;
+use numbers::command;
 
 pub fn fresh() -> Kernel
     ensures { λ r. ⌜ stateOf r ≡ freshState ⌝ }
@@ -21,10 +23,10 @@ pub fn read_part<'a>(k: Kernel, record: &[u8], payloads: &'a [u8]) -> &'a [u8]
     requires { ⌜ Good k ⌝ }
     ensures { λ r. ⌜ now r ≡ partOf (stateOf k) (now («record» .entry)) (now (payloads .entry)) ⌝ }
 {
-    if record.len() != records::BYTES {
+    if record.len() != RECORD_BYTES {
         return &payloads[0..0];
     }
-    if record[0] != records::READ {
+    if record[0] != command::READ {
         return &payloads[0..0];
     }
     records::read_part_of(k, record, payloads)
@@ -45,29 +47,29 @@ pub fn command(
         ≡ answerTo (stateOf k) (now («record» .entry)) (now (chart .entry))
         (areas (now (payloads .entry)) (now (tables .entry)) (now (log .entry))) ⌝ }
 {
-    if record.len() != records::BYTES {
+    if record.len() != RECORD_BYTES {
         return commands::refuse(k, FORM);
     }
     let n = record[0];
     match n {
-        records::LOAD => records::load_command(k, record, chart, tables),
-        records::START => records::start_command(k, record, tables),
-        records::NEW => records::new_command(k, record, payloads),
-        records::POST => records::post_command(k, record),
-        records::POSTFRONT => records::post_front_command(k, record),
-        records::PUBLISH => records::publish_command(k, record),
-        records::SUBSCRIBE => records::subscribe_command(k, record),
-        records::UNSUBSCRIBE => records::unsubscribe_command(k, record),
-        records::HOLD => records::hold_command(k, record),
-        records::RELEASE => records::release_command(k, record),
-        records::DROP => records::drop_event_command(k, record),
-        records::NEXT => records::next_command(k, record, tables),
-        records::END => records::end_command(k, record),
-        records::ARM => records::arm_command(k, record),
-        records::DISARM => records::disarm_command(k, record),
-        records::TICK => records::tick_command(k, record),
-        records::READ => records::read_command(k, record, payloads),
-        records::DRAIN => records::drain_command(k, record, tables, log),
+        command::LOAD => records::load_command(k, record, chart, tables),
+        command::START => records::start_command(k, record, tables),
+        command::NEW => records::new_command(k, record, payloads),
+        command::POST => records::post_command(k, record),
+        command::POSTFRONT => records::post_front_command(k, record),
+        command::PUBLISH => records::publish_command(k, record),
+        command::SUBSCRIBE => records::subscribe_command(k, record),
+        command::UNSUBSCRIBE => records::unsubscribe_command(k, record),
+        command::HOLD => records::hold_command(k, record),
+        command::RELEASE => records::release_command(k, record),
+        command::DROP => records::drop_event_command(k, record),
+        command::NEXT => records::next_command(k, record, tables),
+        command::END => records::end_command(k, record),
+        command::ARM => records::arm_command(k, record),
+        command::DISARM => records::disarm_command(k, record),
+        command::TICK => records::tick_command(k, record),
+        command::READ => records::read_command(k, record, payloads),
+        command::DRAIN => records::drain_command(k, record, tables, log),
         _ => commands::refuse(k, FORM),
     }
 }

@@ -17,60 +17,22 @@ use commands::payloads;
 use commands::steps;
 use commands::subscriptions;
 use ground::byte_at;
-
-pub const BYTES: usize = 72;
+use numbers::LARGE_BYTES;
+use numbers::RECORD_BYTES;
 
 // What the high byte of a 16-bit number counts.
 const HIGH: u16 = 256;
 
-pub const LOAD: u8 = 1;
-
-pub const START: u8 = 2;
-
-pub const NEW: u8 = 3;
-
-pub const POST: u8 = 4;
-
-pub const POSTFRONT: u8 = 5;
-
-pub const PUBLISH: u8 = 6;
-
-pub const SUBSCRIBE: u8 = 7;
-
-pub const UNSUBSCRIBE: u8 = 8;
-
-pub const HOLD: u8 = 9;
-
-pub const RELEASE: u8 = 10;
-
-pub const DROP: u8 = 11;
-
-pub const NEXT: u8 = 12;
-
-pub const END: u8 = 13;
-
-pub const ARM: u8 = 14;
-
-pub const DISARM: u8 = 15;
-
-pub const TICK: u8 = 16;
-
-pub const READ: u8 = 17;
-
-pub const DRAIN: u8 = 18;
-
 const AFTER_SIZE: usize = 3;
 
 const FIRST_PAYLOAD: usize = 8;
-
-const LARGEST: usize = 64;
 
 // A byte past the number and n arguments is not 0.
 fn spoilt(record: &[u8], n: usize) -> bool
     requires { ⌜ n ≤ 7 ⌝ }
     ensures { λ r. ⌜ r ≡ machine.spoilt n (now («record» .entry)) ⌝ }
 {
-    !ground::blank(record, 1 + n, BYTES)
+    !ground::blank(record, 1 + n, RECORD_BYTES)
 }
 
 // In NEW a later argument, or a payload byte past the size; none if the size is above 64.
@@ -80,10 +42,10 @@ fn spoilt_new(record: &[u8], size: usize) -> bool
     if !ground::blank(record, AFTER_SIZE, FIRST_PAYLOAD) {
         return true;
     }
-    if LARGEST < size {
+    if LARGE_BYTES < size {
         return false;
     }
-    !ground::blank(record, FIRST_PAYLOAD + size, BYTES)
+    !ground::blank(record, FIRST_PAYLOAD + size, RECORD_BYTES)
 }
 
 fn arg(record: &[u8], n: usize) -> usize
@@ -137,7 +99,7 @@ pub fn new_command(k: Kernel, record: &[u8], payloads: &mut [u8]) -> Answered
         spoilt_new(record, arg(record, 2)),
         byte_at(record, 1),
         byte_at(record, 2),
-        &record[FIRST_PAYLOAD..BYTES],
+        &record[FIRST_PAYLOAD..RECORD_BYTES],
         payloads,
     )
 }

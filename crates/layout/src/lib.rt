@@ -9,31 +9,30 @@ ghost use Rattle.ground.specs.Bytes.{padded};
 ghost use Rattle.machine.specs.Charts.{startRow};
 ghost use Rattle.machine.specs.Numbers.{capacity, placeOf};
 ghost use Rattle.machine.specs.Reply.{over};
+use numbers::LARGE;
+use numbers::LARGE_BYTES;
+use numbers::MIDDLE;
+use numbers::MIDDLE_BYTES;
+use numbers::ROW_BYTES;
+use numbers::SLOT_BYTES;
+use numbers::SMALL_BYTES;
 
-// The first block of 32 bytes and the first of 64, and where these begin in the payload area.
-const MIDDLE: usize = 32;
-
-const LARGE: usize = 48;
-
+// Where the first block of 32 bytes and the first of 64 begin in the payload area.
 const MIDDLE_PLACE: usize = 512;
 
 const LARGE_PLACE: usize = 1024;
-
-const SLOT: usize = 16152;
-
-const ROW: usize = 24;
 
 // How many bytes block b holds.
 fn capacity_of(b: usize) -> usize
     ensures { λ r. ⌜ (r ≡ capacity b) × (r ≤ 64) ⌝ }
 {
     if b < MIDDLE {
-        return 16;
+        return SMALL_BYTES;
     }
     if b < LARGE {
-        return 32;
+        return MIDDLE_BYTES;
     }
-    64
+    LARGE_BYTES
 }
 
 // Where block b begins in the payload area.
@@ -42,12 +41,12 @@ pub fn place_of(b: usize) -> usize
     ensures { λ r. ⌜ (r ≡ placeOf b) × (r < 1536) ⌝ }
 {
     if b < MIDDLE {
-        return 16 * b;
+        return SMALL_BYTES * b;
     }
     if b < LARGE {
-        return MIDDLE_PLACE + 32 * (b - MIDDLE);
+        return MIDDLE_PLACE + MIDDLE_BYTES * (b - MIDDLE);
     }
-    LARGE_PLACE + 64 * (b - LARGE)
+    LARGE_PLACE + LARGE_BYTES * (b - LARGE)
 }
 
 // The payload goes to the place of block b; the rest of the block is 0.
@@ -67,8 +66,8 @@ pub fn fill_slot(q: usize, chart: &[u8], tables: &mut [u8]) -> u32
     ensures { λ r. ⌜ (r ≡ 0 → now (tables .exit) ≡ over (now (tables .entry)) (slotSize * q) (slotBytes (now (chart .entry)))) ⌝ }
     ensures { λ r. ⌜ ((r ≡ 0 → ⊥) → now (tables .exit) ≡ now (tables .entry)) ⌝ }
 {
-    let at = SLOT * q;
-    chart::chart_flatten(chart, &mut tables[at..at + SLOT])
+    let at = SLOT_BYTES * q;
+    chart::chart_flatten(chart, &mut tables[at..at + SLOT_BYTES])
 }
 
 // The row at a place of the tables, as much of it as there is.
@@ -79,18 +78,18 @@ fn row_at<'a>(tables: &'a [u8], at: usize) -> &'a [u8]
     if n < at {
         return &tables[0..0];
     }
-    if n - at < ROW {
+    if n - at < ROW_BYTES {
         return &tables[at..n];
     }
-    &tables[at..at + ROW]
+    &tables[at..at + ROW_BYTES]
 }
 
 // The start row of slot q, as much of it as there is.
 pub fn start_row<'a>(tables: &'a [u8], q: usize) -> &'a [u8]
     ensures { λ r. ⌜ now r ≡ startRow (now (tables .entry)) q ⌝ }
 {
-    if tables.len() / SLOT < q {
+    if tables.len() / SLOT_BYTES < q {
         return &tables[0..0];
     }
-    row_at(tables, SLOT * q)
+    row_at(tables, SLOT_BYTES * q)
 }

@@ -8,12 +8,11 @@ ghost use Rattle.mail.specs.Box.{pushBack, pushFront, tookFront, front, 
 ghost use Rattle.mail.specs.Entry.{entryOf, handOf};
 ghost use Rattle.mail.specs.Inside.{placeOf, boxes, Mail, Holds};
 use ground::wide;
+use numbers::ALL_PLACES;
+use numbers::OBJECTS;
+use numbers::PLACES;
 
-const OBJECTS: usize = 16;
-
-// The places of one mailbox. One place back in the ring is fifteen on.
-const PLACES: usize = 16;
-
+// One place back in a ring is fifteen on.
 const ONE_BACK: usize = 15;
 
 // Entry 0 is nothing, 1 to 63 are the blocks; from 64 on each timer has an entry for every signal.
@@ -38,7 +37,13 @@ fn place(q: usize, h: usize, i: usize) -> usize
     PLACES * q + (h + i) % PLACES
 }
 
-pub fn push_back(places: &mut [u16; 256], heads: &[u8; 16], counts: &mut [u8; 16], q: usize, e: u16)
+pub fn push_back(
+    places: &mut [u16; ALL_PLACES],
+    heads: &[u8; OBJECTS],
+    counts: &mut [u8; OBJECTS],
+    q: usize,
+    e: u16,
+)
     requires { ⌜ Mail (now places) (now heads) (now counts) ⌝ }
     requires { ⌜ (q < 16) × (getD (now counts) q 0 < 16) ⌝ }
     ensures { λ r. ⌜ Holds (now (places .exit)) (now (heads .entry)) (now (counts .exit))
@@ -52,9 +57,9 @@ pub fn push_back(places: &mut [u16; 256], heads: &[u8; 16], counts: &mut [u8; 16
 }
 
 pub fn push_front(
-    places: &mut [u16; 256],
-    heads: &mut [u8; 16],
-    counts: &mut [u8; 16],
+    places: &mut [u16; ALL_PLACES],
+    heads: &mut [u8; OBJECTS],
+    counts: &mut [u8; OBJECTS],
     q: usize,
     e: u16,
 )
@@ -72,7 +77,12 @@ pub fn push_front(
 }
 
 // The front entry, which leaves.
-pub fn take_front(places: &[u16; 256], heads: &mut [u8; 16], counts: &mut [u8; 16], q: usize) -> u16
+pub fn take_front(
+    places: &[u16; ALL_PLACES],
+    heads: &mut [u8; OBJECTS],
+    counts: &mut [u8; OBJECTS],
+    q: usize,
+) -> u16
     requires { ⌜ Mail (now places) (now heads) (now counts) ⌝ }
     requires { ⌜ (q < 16) × (0 < getD (now counts) q 0) ⌝ }
     ensures { λ r. ⌜ Holds (now (places .entry)) (now (heads .exit)) (now (counts .exit))
@@ -89,7 +99,12 @@ pub fn take_front(places: &[u16; 256], heads: &mut [u8; 16], counts: &mut [u8; 1
 }
 
 // The front entry, which stays.
-pub fn front(places: &[u16; 256], heads: &[u8; 16], counts: &[u8; 16], q: usize) -> u16
+pub fn front(
+    places: &[u16; ALL_PLACES],
+    heads: &[u8; OBJECTS],
+    counts: &[u8; OBJECTS],
+    q: usize,
+) -> u16
     requires { ⌜ (q < 16) × (0 < getD (now counts) q 0) ⌝ }
     ensures { λ r. ⌜ r ≡ front (boxes (now (places .entry)) (now (heads .entry)) (now (counts .entry))) q ⌝ }
 {
@@ -97,7 +112,7 @@ pub fn front(places: &[u16; 256], heads: &[u8; 16], counts: &[u8; 16], q: usize)
 }
 
 // The highest object with mail, counted from 1; 0 where nothing is queued. The counts alone say it.
-pub fn highest(counts: &[u8; 16]) -> usize
+pub fn highest(counts: &[u8; OBJECTS]) -> usize
     ensures { λ r. ⌜ ((places heads : List ℕ) → r ≡ highest (boxes places heads (now (counts .entry)))) ⌝ }
     ensures { λ r. ⌜ r ≤ 16 ⌝ }
 {
@@ -112,7 +127,7 @@ pub fn highest(counts: &[u8; 16]) -> usize
 }
 
 // What an array has of object p, counted from 1; 0 where there is no such object.
-pub fn of_object(a: &[u8; 16], p: usize) -> usize
+pub fn of_object(a: &[u8; OBJECTS], p: usize) -> usize
     requires { ⌜ length (now a) ≡ 16 ⌝ }
     ensures { λ r. ⌜ (r ≡ getD (now (a .entry)) (p - 1) 0) × (r < 256) ⌝ }
 {

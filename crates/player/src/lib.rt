@@ -4,22 +4,17 @@ ghost use Rattle.io.specs.Counts.{Counts};
 ghost use Rattle.commands.specs.View.{Good};
 use kernel::Answered;
 use kernel::Kernel;
-
-pub const RECORD_BYTES: usize = 72;
-
-pub const PAYLOADS_BYTES: usize = 1536;
-
-pub const TABLES_BYTES: usize = 64608;
-
-pub const LOG_BYTES: usize = 6120;
+use numbers::LOG_AREA;
+use numbers::PAYLOAD_AREA;
+use numbers::RECORD_BYTES;
+use numbers::TABLE_AREA;
+use numbers::command::LOAD;
 
 // One byte more than a chart may have, so that a longer file is handed on as a chart that is too long.
 const CHART_BYTES: usize = 5577;
 
 // The folder in which a program is started, by a letter as every folder of charts.
 pub const HERE: u8 = b'.';
-
-const LOAD: u8 = 1;
 
 const SLOTS: u8 = 4;
 
@@ -155,8 +150,8 @@ fn play_on(most: u64, folder: u8, payloads: &mut [u8], tables: &mut [u8], log: &
 
 // Plays a trace of standard input from a fresh start, at most so many bytes, with the charts of a folder.
 pub fn play(most: u64, folder: u8) {
-    let mut payloads = [0u8; PAYLOADS_BYTES];
-    let mut tables = [0u8; TABLES_BYTES];
-    let mut log = [0u8; LOG_BYTES];
+    let mut payloads = [0u8; PAYLOAD_AREA];
+    let mut tables = [0u8; TABLE_AREA];
+    let mut log = [0u8; LOG_AREA];
     play_on(most, folder, &mut payloads, &mut tables, &mut log);
 }

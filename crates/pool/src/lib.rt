@@ -9,8 +9,12 @@ ghost use Rattle.pool.specs.Inside.{cells, freed, rowOf, Sized};
 ghost use Rattle.pool.specs.Promise.{Takes, Frees};
 ghost use Rattle.pool.specs.Row.{at, changed, freshRow, generationAt, staleAt, poolFor, lowestFree, goneAll};
 use ground::wide;
-
-const BLOCKS: usize = 56;
+use numbers::BLOCKS;
+use numbers::LARGE;
+use numbers::LARGE_BYTES;
+use numbers::MIDDLE;
+use numbers::MIDDLE_BYTES;
+use numbers::SMALL_BYTES;
 
 const LAST_GENERATION: u8 = 255;
 
@@ -24,8 +28,8 @@ const LAST: u16 = 2;
 const MOST: u16 = 65535;
 
 pub struct Pool {
-    gens: [u8; 56],
-    counts: [u16; 56],
+    gens: [u8; BLOCKS],
+    counts: [u16; BLOCKS],
 }
 
 // The blocks from `from` up to, not including, `to`.
@@ -54,8 +58,8 @@ pub fn fresh() -> Pool
     ensures { λ r. ⌜ cells r ≡ freshRow ⌝ }
 {
     Pool {
-        gens: [0u8; 56],
-        counts: [FREE; 56],
+        gens: [0u8; BLOCKS],
+        counts: [FREE; BLOCKS],
     }
 }
 
@@ -63,20 +67,32 @@ pub fn fresh() -> Pool
 fn pool_for(size: usize) -> Span
     ensures { λ r. ⌜ r ≡ poolFor size ⌝ }
 {
-    if size <= 16 {
-        return Span { from: 0, to: 32 };
+    if size <= SMALL_BYTES {
+        return Span {
+            from: 0,
+            to: MIDDLE,
+        };
     }
-    if size <= 32 {
-        return Span { from: 32, to: 48 };
+    if size <= MIDDLE_BYTES {
+        return Span {
+            from: MIDDLE,
+            to: LARGE,
+        };
     }
-    if size <= 64 {
-        return Span { from: 48, to: 56 };
+    if size <= LARGE_BYTES {
+        return Span {
+            from: LARGE,
+            to: BLOCKS,
+        };
     }
-    Span { from: 56, to: 56 }
+    Span {
+        from: BLOCKS,
+        to: BLOCKS,
+    }
 }
 
 // The lowest free block from `from` up to `to`, or `to` where none is. The generations have no part in it.
-fn lowest(counts: &[u16; 56], from: usize, to: usize) -> usize
+fn lowest(counts: &[u16; BLOCKS], from: usize, to: usize) -> usize
     requires { ⌜ to ≤ 56 ⌝ }
     ensures { λ r. ⌜ ((gens : List ℕ) → r ≡ firstFrom (λ b. isFree (at (rowOf gens (now (counts .entry))) b)) from (to - from)) ⌝ }
 {
@@ -138,7 +154,7 @@ fn next_generation(g: u8) -> u8
 }
 
 // Block b is free, one generation on.
-fn set_free(gens: &mut [u8; 56], counts: &mut [u16; 56], b: usize)
+fn set_free(gens: &mut [u8; BLOCKS], counts: &mut [u16; BLOCKS], b: usize)
     requires { ⌜ Sized (now gens) (now counts) × (b < 56) ⌝ }
     ensures { λ _. ⌜ rowOf (now (gens .exit)) (now (counts .exit)) ≡ changed freed (rowOf (now (gens .entry)) (now (counts .entry))) b ⌝ }
     ensures { λ _. ⌜ Sized (now (gens .exit)) (now (counts .exit)) ⌝ }
@@ -148,7 +164,7 @@ fn set_free(gens: &mut [u8; 56], counts: &mut [u16; 56], b: usize)
 }
 
 // One reference fewer in the arrays of a pool; the last one frees the block.
-fn let_go_in(gens: &mut [u8; 56], counts: &mut [u16; 56], b: usize) -> bool
+fn let_go_in(gens: &mut [u8; BLOCKS], counts: &mut [u16; BLOCKS], b: usize) -> bool
     requires { ⌜ Sized (now gens) (now counts) ⌝ }
     ensures { λ r. ⌜ Frees fewer atLast (rowOf (now (gens .entry)) (now (counts .entry))) b (rowOf (now (gens .exit)) (now (counts .exit))) r ⌝ }
     ensures { λ _. ⌜ Sized (now (gens .exit)) (now (counts .exit)) ⌝ }
@@ -231,7 +247,7 @@ pub fn generation(p: Pool, b: usize) -> u8
 }
 
 // The generation of every block.
-pub fn generations(p: Pool) -> [u8; 56]
+pub fn generations(p: Pool) -> [u8; BLOCKS]
     ensures { λ r. ⌜ r ≡ tab (generationAt (cells p)) 56 ⌝ }
 {
     p.gens

@@ -14,23 +14,23 @@ use ground::byte_at;
 use ground::one;
 use mail::of_object;
 use mail::room_of;
+use numbers::ALL_PLACES;
+use numbers::ALL_SIGNAL_PLACES;
+use numbers::OBJECTS;
+use numbers::SIGNAL_PLACES;
 use pool::Pool;
 
-const OBJECTS: usize = 16;
-
 // What the subscriptions keep of one object: a place for each signal.
-const SIGNALS: usize = 32;
-
 // Whether object p subscribes to signal g.
-pub fn subscribes(wants: &[u8; 512], p: usize, g: usize) -> bool
+pub fn subscribes(wants: &[u8; ALL_SIGNAL_PLACES], p: usize, g: usize) -> bool
     requires { ⌜ (1 ≤ p) × (p ≤ 16) × (g < 256) ⌝ }
     ensures { λ r. ⌜ r ≡ eqb (getD (now (wants .entry)) (wantPlace p g) 0) 1 ⌝ }
 {
-    byte_at(wants, SIGNALS * (p - 1) + g) == 1
+    byte_at(wants, SIGNAL_PLACES * (p - 1) + g) == 1
 }
 
 // How many objects subscribe to signal g.
-pub fn receivers(wants: &[u8; 512], g: usize) -> u8
+pub fn receivers(wants: &[u8; ALL_SIGNAL_PLACES], g: usize) -> u8
     requires { ⌜ g < 256 ⌝ }
     ensures { λ r. ⌜ ((s : State) → s .wants ≡ now (wants .entry) → r ≡ machine.receivers s g 16) ⌝ }
 {
@@ -44,7 +44,13 @@ pub fn receivers(wants: &[u8; 512], g: usize) -> u8
 }
 
 // Whether object p subscribes to signal g and has no place.
-fn is_full(wants: &[u8; 512], depths: &[u8; 16], counts: &[u8; 16], p: usize, g: usize) -> bool
+fn is_full(
+    wants: &[u8; ALL_SIGNAL_PLACES],
+    depths: &[u8; OBJECTS],
+    counts: &[u8; OBJECTS],
+    p: usize,
+    g: usize,
+) -> bool
     requires { ⌜ (1 ≤ p) × (p ≤ 16) × (g < 256) × (length (now depths) ≡ 16) × (length (now counts) ≡ 16) ⌝ }
     ensures { λ r. ⌜ r ≡ cond (eqb (getD (now (wants .entry)) (wantPlace p g) 0) 1) (eqb (getD (now (depths .entry)) (p - 1) 0 - getD (now (counts .entry)) (p - 1) 0) 0) false ⌝ }
 {
@@ -55,7 +61,12 @@ fn is_full(wants: &[u8; 512], depths: &[u8; 16], counts: &[u8; 16], p: usize, g:
 }
 
 // Whether an object that subscribes to signal g has no place.
-pub fn any_full(wants: &[u8; 512], depths: &[u8; 16], counts: &[u8; 16], g: usize) -> bool
+pub fn any_full(
+    wants: &[u8; ALL_SIGNAL_PLACES],
+    depths: &[u8; OBJECTS],
+    counts: &[u8; OBJECTS],
+    g: usize,
+) -> bool
     requires { ⌜ (g < 256) × (length (now depths) ≡ 16) × (length (now counts) ≡ 16) ⌝ }
     ensures { λ r. ⌜ ((s : State) → Reads s (now (wants .entry)) (now (depths .entry)) (now (counts .entry)) → r ≡ fullReceiver s g 16) ⌝ }
 {
@@ -72,9 +83,9 @@ pub fn any_full(wants: &[u8; 512], depths: &[u8; 16], counts: &[u8; 16], g: usiz
 // Block b goes to the back of p's mailbox, which has room, if p is to receive it.
 fn post_to(
     receives: bool,
-    places: &mut [u16; 256],
-    heads: &[u8; 16],
-    counts: &mut [u8; 16],
+    places: &mut [u16; ALL_PLACES],
+    heads: &[u8; OBJECTS],
+    counts: &mut [u8; OBJECTS],
     pool: Pool,
     b: usize,
     p: usize,
@@ -97,10 +108,10 @@ fn post_to(
 
 // Block b goes to the back of every subscriber to signal g, each of which has room.
 pub fn post_to_all(
-    wants: &[u8; 512],
-    places: &mut [u16; 256],
-    heads: &[u8; 16],
-    counts: &mut [u8; 16],
+    wants: &[u8; ALL_SIGNAL_PLACES],
+    places: &mut [u16; ALL_PLACES],
+    heads: &[u8; OBJECTS],
+    counts: &mut [u8; OBJECTS],
     pool: Pool,
     b: usize,
     g: usize,

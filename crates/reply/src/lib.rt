@@ -6,11 +6,15 @@ ghost use mathlib.Core.Path.{_≡_};
 ghost use Prim.Native.Nat.{_≤_, _<_};
 ghost use lib.Dec.{ltb};
 ghost use lib.ListN.{length, getD};
-ghost use Rattle.machine.specs.Numbers as numbers;
+ghost use Rattle.machine.specs.Numbers as ranges;
 ghost use Rattle.machine.specs.Reply.{no, badChart, replyOf};
 ghost use Rattle.machine.specs.Reply as said;
 use ground::fill;
-use refusals::CHART;
+use numbers::ACTIONS_IN_ROW;
+use numbers::MOST_ACTIONS;
+use numbers::REPLY_BYTES;
+use numbers::ROW_BYTES;
+use numbers::answer::CHART;
 
 const NUMBER: usize = 0;
 
@@ -26,10 +30,6 @@ const SECOND_VALUE: usize = 5;
 
 const ACTIONS: usize = 6;
 
-const BYTES: usize = 24;
-
-const MOST_ACTIONS: usize = 18;
-
 // Of tests in a row, the number of the first that holds.
 pub fn first(n: u8, test: bool, rest: u8) -> u8
     ensures { λ r. ⌜ r ≡ cond test n rest ⌝ }
@@ -39,7 +39,7 @@ pub fn first(n: u8, test: bool, rest: u8) -> u8
 
 // Whether n is not one of low to high.
 pub fn outside(low: usize, high: usize, n: usize) -> bool
-    ensures { λ r. ⌜ r ≡ numbers.outside low high n ⌝ }
+    ensures { λ r. ⌜ r ≡ ranges.outside low high n ⌝ }
 {
     if n < low {
         return true;
@@ -48,41 +48,44 @@ pub fn outside(low: usize, high: usize, n: usize) -> bool
 }
 
 // A refusal by its number.
-pub fn refused(n: u8) -> [u8; 24]
+pub fn refused(n: u8) -> [u8; REPLY_BYTES]
     ensures { λ r. ⌜ r ≡ replyOf (no n) ⌝ }
 {
-    let mut r = [0u8; BYTES];
+    let mut r = [0u8; REPLY_BYTES];
     r[NUMBER] = n;
     r
 }
 
 // A refused chart, with its class.
-pub fn bad_chart(class: u8) -> [u8; 24]
+pub fn bad_chart(class: u8) -> [u8; REPLY_BYTES]
     ensures { λ r. ⌜ r ≡ replyOf (badChart class) ⌝ }
 {
-    let mut r = [0u8; BYTES];
+    let mut r = [0u8; REPLY_BYTES];
     r[NUMBER] = CHART;
     r[FIRST_VALUE] = class;
     r
 }
 
 // Done, with two values.
-pub fn done(v: u8, w: u8) -> [u8; 24]
+pub fn done(v: u8, w: u8) -> [u8; REPLY_BYTES]
     ensures { λ r. ⌜ r ≡ replyOf (said.done v w) ⌝ }
 {
-    let mut r = [0u8; BYTES];
+    let mut r = [0u8; REPLY_BYTES];
     r[FIRST_VALUE] = v;
     r[SECOND_VALUE] = w;
     r
 }
 
 // The answer of START and NEXT: object p took the row with the signal g.
-pub fn ran(p: u8, g: u8, v: u8, w: u8, row: &[u8]) -> [u8; 24]
+pub fn ran(p: u8, g: u8, v: u8, w: u8, row: &[u8]) -> [u8; REPLY_BYTES]
     requires { ⌜ (length (now row) ≡ 24) × (getD (now row) 1 0 ≤ 2) × (g < 32) ⌝ }
     ensures { λ r. ⌜ r ≡ replyOf (said.ran p g v w (now (row .entry))) ⌝ }
 {
-    let mut r = [0u8; BYTES];
-    fill(&mut r[ACTIONS..BYTES], &row[3..BYTES]);
+    let mut r = [0u8; REPLY_BYTES];
+    fill(
+        &mut r[ACTIONS..REPLY_BYTES],
+        &row[ACTIONS_IN_ROW..ROW_BYTES],
+    );
     r[OBJECT] = p;
     r[OUTCOME] = row[1] * 32 + g;
     r[COUNT] = row[2];
@@ -98,13 +101,13 @@ fn least(a: usize, b: usize) -> usize
 }
 
 // The answer of READ: the payload's length, and as much of it as there is room for.
-pub fn shown(payload: &[u8]) -> [u8; 24]
+pub fn shown(payload: &[u8]) -> [u8; REPLY_BYTES]
     requires { ⌜ length (now payload) ≤ 64 ⌝ }
     ensures { λ r. ⌜ r ≡ replyOf (said.shown (now (payload .entry))) ⌝ }
 {
     let n = payload.len();
-    let mut r = [0u8; BYTES];
-    fill(&mut r[ACTIONS..BYTES], payload);
+    let mut r = [0u8; REPLY_BYTES];
+    fill(&mut r[ACTIONS..REPLY_BYTES], payload);
     r[COUNT] = least(n, MOST_ACTIONS) as u8;
     r[FIRST_VALUE] = n as u8;
     r

@@ -8,52 +8,29 @@ ghost use Rattle.machine.specs.Reply as said;
 ghost use Rattle.machine.specs.Reply.{lowest};
 use super::first;
 use super::outside;
-
-pub const FORM: u8 = 1;
-
-pub const AREA: u8 = 2;
-
-pub const RANGE: u8 = 3;
-
-pub const BUSY: u8 = 4;
-
-pub const NOSTEP: u8 = 5;
-
-pub const IDLE: u8 = 6;
-
-pub const STALE: u8 = 7;
-
-pub const ABSENT: u8 = 8;
-
-pub const TAKEN: u8 = 9;
-
-pub const FULL: u8 = 10;
-
-pub const DRY: u8 = 11;
-
-pub const HOLDS: u8 = 12;
-
-pub const INUSE: u8 = 13;
-
-pub const CHART: u8 = 14;
-
-pub const TABLE: u8 = 15;
-
-const OBJECTS: usize = 16;
-
-const DEEPEST: usize = 16;
-
-const FIRST_SIGNAL: usize = 4;
-
-const LAST_SIGNAL: usize = 31;
+use numbers::FIRST_SIGNAL;
+use numbers::LARGE_BYTES;
+use numbers::LAST_SIGNAL;
+use numbers::OBJECTS;
+use numbers::PLACES;
+use numbers::answer::ABSENT;
+use numbers::answer::AREA;
+use numbers::answer::BUSY;
+use numbers::answer::DRY;
+use numbers::answer::FORM;
+use numbers::answer::FULL;
+use numbers::answer::IDLE;
+use numbers::answer::NOSTEP;
+use numbers::answer::RANGE;
+use numbers::answer::STALE;
+use numbers::answer::TABLE;
+use numbers::answer::TAKEN;
 
 const LAST_TIMER: usize = 15;
 
 const LAST_SLOT: usize = 3;
 
 const LAST_BLOCK: usize = 55;
-
-const LARGEST: usize = 64;
 
 const WIDEST: usize = 15;
 
@@ -104,7 +81,7 @@ pub fn start_refusal(
                     outside(0, LAST_SLOT, q),
                     first(
                         RANGE,
-                        outside(1, DEEPEST, depth),
+                        outside(1, PLACES, depth),
                         first(
                             BUSY,
                             busy,
@@ -134,7 +111,7 @@ pub fn new_refusal(spoilt: bool, bad: bool, g: usize, size: usize, none: bool) -
             first(
                 RANGE,
                 outside(FIRST_SIGNAL, LAST_SIGNAL, g),
-                first(RANGE, outside(0, LARGEST, size), first(DRY, none, 0)),
+                first(RANGE, outside(0, LARGE_BYTES, size), first(DRY, none, 0)),
             ),
         ),
     )

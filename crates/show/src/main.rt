@@ -8,16 +8,12 @@
 //     count 4  actions 22 26 31 41      the count and the actions; for READ bytes of the payload
 // What is no reply of the kernel is told as such: a number above 15, and a last piece that is shorter than a record.
 ghost use Prim.Native.Nat.{_≤_};
+use numbers::REPLY_BYTES;
+use numbers::answer;
 use text::Line;
 use text::wide;
 use text::with_bytes;
 use text::with_number;
-
-const REPLY_BYTES: usize = 24;
-
-const DONE: u8 = 0;
-
-const CHART: u8 = 14;
 
 // An event that came from timer t has the block number 128 + t.
 const FIRST_TIMER: u8 = 128;
@@ -34,22 +30,22 @@ fn answer_line(number: u8) -> Line
 {
     let line = text::empty();
     match number {
-        0 => with_bytes(line, b"DONE"),
-        1 => with_bytes(line, b"FORM"),
-        2 => with_bytes(line, b"AREA"),
-        3 => with_bytes(line, b"RANGE"),
-        4 => with_bytes(line, b"BUSY"),
-        5 => with_bytes(line, b"NOSTEP"),
-        6 => with_bytes(line, b"IDLE"),
-        7 => with_bytes(line, b"STALE"),
-        8 => with_bytes(line, b"ABSENT"),
-        9 => with_bytes(line, b"TAKEN"),
-        10 => with_bytes(line, b"FULL"),
-        11 => with_bytes(line, b"DRY"),
-        12 => with_bytes(line, b"HOLDS"),
-        13 => with_bytes(line, b"INUSE"),
-        14 => with_bytes(line, b"CHART"),
-        15 => with_bytes(line, b"TABLE"),
+        answer::DONE => with_bytes(line, b"DONE"),
+        answer::FORM => with_bytes(line, b"FORM"),
+        answer::AREA => with_bytes(line, b"AREA"),
+        answer::RANGE => with_bytes(line, b"RANGE"),
+        answer::BUSY => with_bytes(line, b"BUSY"),
+        answer::NOSTEP => with_bytes(line, b"NOSTEP"),
+        answer::IDLE => with_bytes(line, b"IDLE"),
+        answer::STALE => with_bytes(line, b"STALE"),
+        answer::ABSENT => with_bytes(line, b"ABSENT"),
+        answer::TAKEN => with_bytes(line, b"TAKEN"),
+        answer::FULL => with_bytes(line, b"FULL"),
+        answer::DRY => with_bytes(line, b"DRY"),
+        answer::HOLDS => with_bytes(line, b"HOLDS"),
+        answer::INUSE => with_bytes(line, b"INUSE"),
+        answer::CHART => with_bytes(line, b"CHART"),
+        answer::TABLE => with_bytes(line, b"TABLE"),
         _ => with_item(line, b"unknown answer ", number),
     }
 }
@@ -92,10 +88,10 @@ fn with_values(line: Line, number: u8, first: u8, second: u8) -> Line
     requires { ⌜ line .n ≤ 192 ⌝ }
     ensures { λ r. ⌜ r .n ≤ 192 ⌝ }
 {
-    if number == CHART {
+    if number == answer::CHART {
         return with_item(line, b"  class ", first);
     }
-    if number == DONE || first != 0 || second != 0 {
+    if number == answer::DONE || first != 0 || second != 0 {
         return with_item(with_item(line, b"  values ", first), b" ", second);
     }
     line

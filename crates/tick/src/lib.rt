@@ -13,8 +13,9 @@ use ground::wide;
 use mail::Hand;
 use mail::of_object;
 use mail::room_of;
-
-const TIMERS: usize = 16;
+use numbers::ALL_PLACES;
+use numbers::OBJECTS;
+use numbers::TIMERS;
 
 // How many timers have fired in a TICK, and how many were late.
 pub struct Ticks {
@@ -45,7 +46,14 @@ fn one_late(ticks: Ticks) -> Ticks
 }
 
 // An entry with timer t and signal g goes to the back of p's mailbox, which has room.
-fn fire(places: &mut [u16; 256], heads: &[u8; 16], counts: &mut [u8; 16], t: usize, p: usize, g: u8)
+fn fire(
+    places: &mut [u16; ALL_PLACES],
+    heads: &[u8; OBJECTS],
+    counts: &mut [u8; OBJECTS],
+    t: usize,
+    p: usize,
+    g: u8,
+)
     requires { ⌜ Mail (now places) (now heads) (now counts) ⌝ }
     requires { ⌜ (t < 16) × (1 ≤ p) × (p ≤ 16) × (getD (now counts) (p - 1) 0 < 16) ⌝ }
     ensures { λ r. ⌜ Holds (now (places .exit)) (now (heads .entry)) (now (counts .exit))
@@ -57,14 +65,14 @@ fn fire(places: &mut [u16; 256], heads: &[u8; 16], counts: &mut [u8; 16], t: usi
 
 // The turn of timer t. Counter above 1: less one. At 1 with room: it fires, and the counter becomes the interval. Without room: late.
 fn tick_timer(
-    places: &mut [u16; 256],
-    heads: &[u8; 16],
-    counts: &mut [u8; 16],
-    counters: &mut [u16; 16],
-    depths: &[u8; 16],
-    owners: &[u8; 16],
-    alarms: &[u8; 16],
-    intervals: &[u16; 16],
+    places: &mut [u16; ALL_PLACES],
+    heads: &[u8; OBJECTS],
+    counts: &mut [u8; OBJECTS],
+    counters: &mut [u16; TIMERS],
+    depths: &[u8; OBJECTS],
+    owners: &[u8; TIMERS],
+    alarms: &[u8; TIMERS],
+    intervals: &[u16; TIMERS],
     t: usize,
     ticks: Ticks,
 ) -> Ticks
@@ -98,14 +106,14 @@ fn tick_timer(
 
 // The timers by ascending number.
 pub fn tick_all(
-    places: &mut [u16; 256],
-    heads: &[u8; 16],
-    counts: &mut [u8; 16],
-    counters: &mut [u16; 16],
-    depths: &[u8; 16],
-    owners: &[u8; 16],
-    alarms: &[u8; 16],
-    intervals: &[u16; 16],
+    places: &mut [u16; ALL_PLACES],
+    heads: &[u8; OBJECTS],
+    counts: &mut [u8; OBJECTS],
+    counters: &mut [u16; TIMERS],
+    depths: &[u8; OBJECTS],
+    owners: &[u8; TIMERS],
+    alarms: &[u8; TIMERS],
+    intervals: &[u16; TIMERS],
 ) -> Ticks
     requires { ⌜ Ready (now places) (now heads) (now counts) (now counters) (now depths) (now owners) (now alarms) (now intervals) ⌝ }
     ensures { λ r. ⌜ ((s : State) →

@@ -12,9 +12,9 @@
 ghost use Prim.Native.Nat.{_≤_};
 use check::same;
 use input::Letter;
+use numbers::RECORD_BYTES;
+use numbers::command;
 use text::Line;
-
-const RECORD_BYTES: usize = 72;
 
 const COMMAND_RECORD: u8 = 72;
 
@@ -27,10 +27,6 @@ const PAYLOAD: usize = 8;
 
 // The number above all that are written.
 const TOO_LARGE: u32 = 65536;
-
-const NEW: u8 = 3;
-
-const ARM: u8 = 14;
 
 // What is no command has a number above theirs here.
 const TOP: u8 = 19;
@@ -135,24 +131,24 @@ fn named(other: u8, word: &[u8], name: &[u8], number: u8) -> u8 {
 
 // The number of a name, 0 if there is no such name.
 fn number_of(word: &[u8]) -> u8 {
-    let n = named(0, word, b"LOAD", 1);
-    let n = named(n, word, b"START", 2);
-    let n = named(n, word, b"NEW", NEW);
-    let n = named(n, word, b"POST", 4);
-    let n = named(n, word, b"POSTFRONT", 5);
-    let n = named(n, word, b"PUBLISH", 6);
-    let n = named(n, word, b"SUBSCRIBE", 7);
-    let n = named(n, word, b"UNSUBSCRIBE", 8);
-    let n = named(n, word, b"HOLD", 9);
-    let n = named(n, word, b"RELEASE", 10);
-    let n = named(n, word, b"DROP", 11);
-    let n = named(n, word, b"NEXT", 12);
-    let n = named(n, word, b"END", 13);
-    let n = named(n, word, b"ARM", ARM);
-    let n = named(n, word, b"DISARM", 15);
-    let n = named(n, word, b"TICK", 16);
-    let n = named(n, word, b"READ", 17);
-    let n = named(n, word, b"DRAIN", 18);
+    let n = named(0, word, b"LOAD", command::LOAD);
+    let n = named(n, word, b"START", command::START);
+    let n = named(n, word, b"NEW", command::NEW);
+    let n = named(n, word, b"POST", command::POST);
+    let n = named(n, word, b"POSTFRONT", command::POSTFRONT);
+    let n = named(n, word, b"PUBLISH", command::PUBLISH);
+    let n = named(n, word, b"SUBSCRIBE", command::SUBSCRIBE);
+    let n = named(n, word, b"UNSUBSCRIBE", command::UNSUBSCRIBE);
+    let n = named(n, word, b"HOLD", command::HOLD);
+    let n = named(n, word, b"RELEASE", command::RELEASE);
+    let n = named(n, word, b"DROP", command::DROP);
+    let n = named(n, word, b"NEXT", command::NEXT);
+    let n = named(n, word, b"END", command::END);
+    let n = named(n, word, b"ARM", command::ARM);
+    let n = named(n, word, b"DISARM", command::DISARM);
+    let n = named(n, word, b"TICK", command::TICK);
+    let n = named(n, word, b"READ", command::READ);
+    let n = named(n, word, b"DRAIN", command::DRAIN);
     let n = named(n, word, b"TOP", TOP);
     let n = named(n, word, b"STATE", STATE);
     let n = named(n, word, b"ROW", ROW);
@@ -229,12 +225,12 @@ fn with_two_bytes(record: Record, at: usize, number: u32) -> Record {
 
 // Puts the next number to its place. Only ARM's last two take two bytes.
 fn with_number(record: Record, number: u32) -> Record {
-    let at = if record.name == NEW && record.at == 3 {
+    let at = if record.name == command::NEW && record.at == 3 {
         PAYLOAD
     } else {
         record.at
     };
-    if record.name == ARM && 4 <= at {
+    if record.name == command::ARM && 4 <= at {
         return with_two_bytes(record, at, number);
     }
     if 255 < number {

@@ -1,0 +1,59 @@
+// The numbers of document 01 that several crates use, each once. Their like in the definitions stands in the files `Numbers` of
+// `machine` and `chart`, in `mail`'s `Box` and in `pool`'s `Row`.
+pub mod answer;
+pub mod command;
+
+// Objects have the priorities 1 to 16. A mailbox has up to 16 places, all of them together 256.
+pub const OBJECTS: usize = 16;
+
+pub const PLACES: usize = 16;
+
+pub const ALL_PLACES: usize = 256;
+
+// Signals are 4 to 31. Of each object there is a place for every number below 32, which says whether it subscribes.
+pub const FIRST_SIGNAL: usize = 4;
+
+pub const LAST_SIGNAL: usize = 31;
+
+pub const SIGNAL_PLACES: usize = 32;
+
+pub const ALL_SIGNAL_PLACES: usize = 512;
+
+pub const TIMERS: usize = 16;
+
+pub const BLOCKS: usize = 56;
+
+// The blocks before 32 hold 16 bytes, those before 48 hold 32, the others 64.
+pub const SMALL_BYTES: usize = 16;
+
+pub const MIDDLE: usize = 32;
+
+pub const MIDDLE_BYTES: usize = 32;
+
+pub const LARGE: usize = 48;
+
+pub const LARGE_BYTES: usize = 64;
+
+// A flat table: its rows, where their actions begin and how many there can be, its slots.
+pub const ROW_BYTES: usize = 24;
+
+pub const ACTIONS_IN_ROW: usize = 3;
+
+pub const MOST_ACTIONS: usize = 18;
+
+pub const SLOT_BYTES: usize = 16152;
+
+pub const SLOTS: usize = 4;
+
+// What is lent and answered: a record, a reply, the three areas. The log has a line for each of the most steps of a DRAIN.
+pub const RECORD_BYTES: usize = 72;
+
+pub const REPLY_BYTES: usize = 24;
+
+pub const PAYLOAD_AREA: usize = 1536;
+
+pub const TABLE_AREA: usize = 64608;
+
+pub const LOG_AREA: usize = 6120;
+
+pub const MOST_STEPS: usize = 255;
