@@ -9,6 +9,7 @@ ghost use Rattle.chart.specs.Numbers.{levels, mostStates};
 use super::read::*;
 use ground::blank;
 use ground::wide;
+use numbers::LONGEST_CHART;
 
 // Class 1: the length.
 pub fn length_ok(chart: &[u8]) -> bool
@@ -21,7 +22,7 @@ pub fn length_ok(chart: &[u8]) -> bool
     if len % 8 != 0 {
         return false;
     }
-    len <= LONGEST
+    len <= LONGEST_CHART
 }
 
 // The kind of record i of a chart with n states.

@@ -4,16 +4,14 @@ ghost use Prim.Native.Nat.{_+_, _*_, _<_, _≤_};
 ghost use lib.ListN.{length};
 ghost use Rattle.chart.specs.Chart.{among, byte, has, isSignal, outward, parent, states};
 
-// The most bytes, states and levels of a chart, and the signals.
-pub const LONGEST: usize = 5576;
-
+// The most states and levels of a chart, and the signals as bytes.
 pub const MOST_STATES: usize = 24;
 
 pub const LEVELS: usize = 6;
 
-pub const FIRST_SIGNAL: u8 = 4;
+pub const FIRST_SIGNAL: u8 = numbers::FIRST_SIGNAL as u8;
 
-pub const LAST_SIGNAL: u8 = 31;
+pub const LAST_SIGNAL: u8 = numbers::LAST_SIGNAL as u8;
 
 // What stands at which byte of a state's record.
 pub const PARENT: usize = 1;

@@ -17,9 +17,9 @@ use numbers::ROW_BYTES;
 const ZEROS: usize = 21;
 
 // Signals, and rows behind the start row.
-const SIGNALS: usize = 28;
+const SIGNALS: usize = numbers::LAST_SIGNAL - numbers::FIRST_SIGNAL + 1;
 
-const ROWS: usize = 672;
+const ROWS: usize = MOST_STATES * SIGNALS;
 
 // x less y, 0 where y is more.
 fn less(x: u8, y: u8) -> usize

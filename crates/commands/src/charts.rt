@@ -7,8 +7,10 @@ ghost use lib.Dec.{eqb};
 ghost use lib.ListN.{set};
 ghost use Rattle.machine.specs.Charts as machine;
 ghost use Rattle.machine.specs.Charts.{slotUsed, startedAt};
+ghost use Rattle.machine.specs.Numbers.{objects, slots};
 ghost use Rattle.machine.specs.State.{isLoaded, withLoaded};
 ghost use Rattle.commands.specs.View.{answered, areas, stateOf};
+ghost use Rattle.mail.specs.Box.{room};
 use super::Answered;
 use super::Kernel;
 use super::is_open;
@@ -53,7 +55,7 @@ fn slot_used(k: Kernel, q: usize) -> bool
 
 // Slot q has a chart.
 fn with_chart(k: Kernel, q: usize) -> Kernel
-    requires { ⌜ q < 4 ⌝ }
+    requires { ⌜ q < slots ⌝ }
     ensures { λ r. ⌜ stateOf r ≡ withLoaded (set (stateOf k .loaded) q 1) (stateOf k) ⌝ }
 {
     let mut next = k;
@@ -98,7 +100,7 @@ fn is_loaded(k: Kernel, q: usize) -> bool
 
 // Object p is started.
 fn started_at(k: Kernel, p: usize, q: usize, depth: usize, rest: u8) -> Kernel
-    requires { ⌜ (1 ≤ p) × (p ≤ 16) × (q < 4) × (depth ≤ 16) ⌝ }
+    requires { ⌜ (1 ≤ p) × (p ≤ objects) × (q < slots) × (depth ≤ room) ⌝ }
     ensures { λ r. ⌜ stateOf r ≡ startedAt (stateOf k) p q depth rest ⌝ }
 {
     let mut next = k;

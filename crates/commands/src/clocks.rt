@@ -4,6 +4,7 @@ ghost use Prim.Native.Nat.{_<_};
 ghost use lib.ListN.{getD, length};
 ghost use Rattle.machine.specs.Clocks as machine;
 ghost use Rattle.machine.specs.Clocks.{armedWith, withCounter};
+ghost use Rattle.machine.specs.Numbers.{timers};
 ghost use Rattle.machine.specs.Reply.{Areas};
 ghost use Rattle.commands.specs.View.{answered, Good, stateOf};
 use super::Answered;
@@ -18,14 +19,14 @@ use reply::refusals::disarm_refusal;
 
 // The ticks that are left of timer t; 0 where there is no such timer.
 fn counter_of(counters: &[u16; TIMERS], t: usize) -> u16
-    requires { ⌜ length (now counters) ≡ 16 ⌝ }
+    requires { ⌜ length (now counters) ≡ timers ⌝ }
     ensures { λ r. ⌜ r ≡ getD (now (counters .entry)) t 0 ⌝ }
 {
     if t < TIMERS { counters[t] } else { 0 }
 }
 
 fn arm_timer(k: Kernel, t: usize, p: u8, g: u8, ticks: u16, interval: u16) -> Kernel
-    requires { ⌜ t < 16 ⌝ }
+    requires { ⌜ t < timers ⌝ }
     ensures { λ r. ⌜ stateOf r ≡ armedWith (stateOf k) t p g ticks interval ⌝ }
 {
     let mut next = k;
@@ -64,7 +65,7 @@ pub fn arm(
 }
 
 fn disarm_timer(k: Kernel, t: usize) -> Kernel
-    requires { ⌜ t < 16 ⌝ }
+    requires { ⌜ t < timers ⌝ }
     ensures { λ r. ⌜ stateOf r ≡ withCounter t 0 (stateOf k) ⌝ }
 {
     let mut next = k;

@@ -5,8 +5,10 @@ ghost use Prim.Native.Nat.{ℕ, _-_, _<_, _≤_};
 ghost use lib.ListN.{getD, set};
 ghost use Rattle.machine.specs.Events as machine;
 ghost use Rattle.machine.specs.Events.{fullReceiver, posted, postedFront, publishDone, published};
+ghost use Rattle.machine.specs.Numbers.{blocks, objects};
 ghost use Rattle.machine.specs.Reply.{Areas};
 ghost use Rattle.machine.specs.State.{withCells, withHolds};
+ghost use Rattle.mail.specs.Box.{room};
 ghost use Rattle.pool.specs.View.{cells};
 ghost use Rattle.commands.specs.View.{answered, Good, stateOf};
 use super::Answered;
@@ -29,7 +31,7 @@ const MOST_HOLDS: u8 = 15;
 
 // Block b goes to the back of p's mailbox, which has room.
 fn post_back(k: Kernel, b: usize, p: usize) -> Kernel
-    requires { ⌜ (b < 56) × (1 ≤ p) × (p ≤ 16) × (getD (k .counts) (p - 1) 0 < 16) ⌝ }
+    requires { ⌜ (b < blocks) × (1 ≤ p) × (p ≤ objects) × (getD (k .counts) (p - 1) 0 < room) ⌝ }
     ensures { λ r. ⌜ stateOf r ≡ posted (stateOf k) b p ⌝ }
 {
     let mut places = k.places;
@@ -74,7 +76,7 @@ pub fn post(k: Kernel, spoilt: bool, b: usize, generation: u8, p: usize, margin:
 
 // Block b goes to the front of p's mailbox, which has room.
 fn post_ahead(k: Kernel, b: usize, p: usize) -> Kernel
-    requires { ⌜ (b < 56) × (1 ≤ p) × (p ≤ 16) × (getD (k .counts) (p - 1) 0 < 16) ⌝ }
+    requires { ⌜ (b < blocks) × (1 ≤ p) × (p ≤ objects) × (getD (k .counts) (p - 1) 0 < room) ⌝ }
     ensures { λ r. ⌜ stateOf r ≡ postedFront (stateOf k) b p ⌝ }
 {
     let mut places = k.places;
@@ -121,9 +123,9 @@ fn with_pool(k: Kernel, pool: Pool) -> Kernel
 
 // Block b goes to the back of every subscriber to signal g, each of which has room.
 fn post_to_all(k: Kernel, b: usize, g: usize) -> Kernel
-    requires { ⌜ (b < 56) × (g < 256) ⌝ }
-    requires { ⌜ (fullReceiver (stateOf k) g 16 ≡ false) × ((q : ℕ) → getD (k .depths) q 0 ≤ 16) ⌝ }
-    ensures { λ r. ⌜ stateOf r ≡ published (stateOf k) g b 16 ⌝ }
+    requires { ⌜ (b < blocks) × (g < 256) ⌝ }
+    requires { ⌜ (fullReceiver (stateOf k) g objects ≡ false) × ((q : ℕ) → getD (k .depths) q 0 ≤ room) ⌝ }
+    ensures { λ r. ⌜ stateOf r ≡ published (stateOf k) g b objects ⌝ }
 {
     let wants = k.wants;
     let mut places = k.places;
@@ -139,9 +141,9 @@ fn post_to_all(k: Kernel, b: usize, g: usize) -> Kernel
 
 // What PUBLISH does where every subscriber to the event's signal g has a place.
 fn publish_done(k: Kernel, b: usize, g: usize) -> Answered
-    requires { ⌜ (b < 56) × (g < 256) × (g ≡ getD (k .signals) b 0) ⌝ }
-    requires { ⌜ (fullReceiver (stateOf k) g 16 ≡ false) × ((q : ℕ) → getD (k .depths) q 0 ≤ 16) ⌝ }
-    ensures { λ r. ⌜ ((z : Areas) → answered r z ≡ publishDone (machine.receivers (stateOf k) g 16) b (stateOf k) z) ⌝ }
+    requires { ⌜ (b < blocks) × (g < 256) × (g ≡ getD (k .signals) b 0) ⌝ }
+    requires { ⌜ (fullReceiver (stateOf k) g objects ≡ false) × ((q : ℕ) → getD (k .depths) q 0 ≤ room) ⌝ }
+    ensures { λ r. ⌜ ((z : Areas) → answered r z ≡ publishDone (machine.receivers (stateOf k) g objects) b (stateOf k) z) ⌝ }
 {
     let wants = k.wants;
     let n = publish::receivers(&wants, g);
@@ -179,7 +181,7 @@ pub fn publish(k: Kernel, spoilt: bool, b: usize, generation: u8) -> Answered
 
 // The kernel with another pool and n holds on block b.
 fn with_holds(k: Kernel, pool: Pool, b: usize, n: u8) -> Kernel
-    requires { ⌜ b < 56 ⌝ }
+    requires { ⌜ b < blocks ⌝ }
     ensures { λ r. ⌜ stateOf r ≡ withHolds (set (k .holds) b n) (withCells (cells pool) (stateOf k)) ⌝ }
 {
     let mut next = k;

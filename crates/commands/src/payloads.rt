@@ -5,7 +5,7 @@ ghost use Prim.Native.Nat.{ℕ, _+_, _<_, _≤_};
 ghost use lib.ListN.{getD, length};
 ghost use Rattle.machine.specs.Events as machine;
 ghost use Rattle.machine.specs.Events.{newEvent, newIn, payloadOf, readPart, readTests};
-ghost use Rattle.machine.specs.Numbers.{placeOf};
+ghost use Rattle.machine.specs.Numbers.{placeOf, blocks, payloadBytes};
 ghost use Rattle.machine.specs.Reply.{lowest};
 ghost use Rattle.pool.specs.Cell.{handedOut};
 ghost use Rattle.pool.specs.Row.{changed};
@@ -26,7 +26,7 @@ use reply::refusals::read_refusal;
 
 // The event in block b, which the pool has handed out: its signal, its size, no holds.
 fn new_event(k: Kernel, pool: Pool, b: usize, g: u8, size: u8) -> Kernel
-    requires { ⌜ (b < 56) × (cells pool ≡ changed handedOut (cells (k .pool)) b) ⌝ }
+    requires { ⌜ (b < blocks) × (cells pool ≡ changed handedOut (cells (k .pool)) b) ⌝ }
     ensures { λ r. ⌜ stateOf r ≡ newEvent (stateOf k) b g size ⌝ }
 {
     let mut next = k;
@@ -47,7 +47,7 @@ fn new_in(
     payload: &[u8],
     payloads: &mut [u8],
 ) -> Answered
-    requires { ⌜ (b < 56) × (size ≤ length (now payload)) × (length (now payloads) ≡ 1536) × (cells pool ≡ changed handedOut (cells (k .pool)) b) ⌝ }
+    requires { ⌜ (b < blocks) × (size ≤ length (now payload)) × (length (now payloads) ≡ payloadBytes) × (cells pool ≡ changed handedOut (cells (k .pool)) b) ⌝ }
     ensures { λ r. ⌜ ((t l : List ℕ) → answered r (areas (now (payloads .exit)) t l)
         ≡ newIn (At b) g size (now (payload .entry)) (stateOf k) (areas (now (payloads .entry)) t l)) ⌝ }
 {
@@ -99,7 +99,7 @@ fn read_no(k: Kernel, spoilt: bool, b: usize, generation: u8, payloads: &[u8]) -
 
 // The payload of block b: the part of the payload area that it occupies.
 fn payload_in<'a>(k: Kernel, b: usize, payloads: &'a [u8]) -> &'a [u8]
-    requires { ⌜ (b < 56) × (placeOf b + getD (k .sizes) b 0 ≤ length (now payloads)) ⌝ }
+    requires { ⌜ (b < blocks) × (placeOf b + getD (k .sizes) b 0 ≤ length (now payloads)) ⌝ }
     ensures { λ r. ⌜ now r ≡ payloadOf (stateOf k) b (now (payloads .entry)) ⌝ }
 {
     let at = place_of(b);

@@ -5,7 +5,7 @@ ghost use mathlib.Core.Path.{_≡_};
 ghost use Prim.Native.Nat.{ℕ, _-_, _<_, _≤_};
 ghost use lib.Dec.{eqb, ltb};
 ghost use lib.ListN.{getD, length, set};
-ghost use Rattle.machine.specs.Numbers.{tableBytes, logBytes};
+ghost use Rattle.machine.specs.Numbers.{tableBytes, logBytes, objects};
 ghost use Rattle.machine.specs.Reply.{Areas, answer, done, ran};
 ghost use Rattle.machine.specs.Run.{Fit};
 ghost use Rattle.machine.specs.State.{restOf, slotOf, withBoxes, withHand, withRests};
@@ -81,7 +81,7 @@ fn with_hand(k: Kernel, hand: Hand) -> Kernel
 
 // The front event of object p leaves the mailbox and is in hand; the next state is the new rest at once.
 fn step(k: Kernel, p: usize, hand: Hand, next: u8) -> Kernel
-    requires { ⌜ (1 ≤ p) × (p ≤ 16) × (0 < getD (k .counts) (p - 1) 0) ⌝ }
+    requires { ⌜ (1 ≤ p) × (p ≤ objects) × (0 < getD (k .counts) (p - 1) 0) ⌝ }
     ensures { λ r. ⌜ stateOf r ≡ withBoxes (tookFront (stateOf k .boxes) (p - 1)) (withRests (set (k .rests) (p - 1) next) (withHand hand (stateOf k))) ⌝ }
 {
     let places = k.places;
@@ -99,7 +99,7 @@ fn step(k: Kernel, p: usize, hand: Hand, next: u8) -> Kernel
 
 // The event that comes to object p, which has mail.
 fn coming(k: Kernel, p: usize) -> Coming
-    requires { ⌜ (1 ≤ p) × (p ≤ 16) × (0 < getD (k .counts) (p - 1) 0) ⌝ }
+    requires { ⌜ (1 ≤ p) × (p ≤ objects) × (0 < getD (k .counts) (p - 1) 0) ⌝ }
     requires { ⌜ (p ≡ toRun (stateOf k)) × Fit (stateOf k) ⌝ }
     ensures { λ r. ⌜ Looks (stateOf k) (front (stateOf k .boxes) (p - 1)) (restOf (stateOf k) p) (slotOf (stateOf k) p) r ⌝ }
 {
@@ -115,7 +115,7 @@ fn coming(k: Kernel, p: usize) -> Coming
 
 // Object p takes a row with the event that comes.
 fn next_done(k: Kernel, p: usize, l: Coming, row: &[u8]) -> Answered
-    requires { ⌜ (1 ≤ p) × (p ≤ 16) × (0 < getD (k .counts) (p - 1) 0) ⌝ }
+    requires { ⌜ (1 ≤ p) × (p ≤ objects) × (0 < getD (k .counts) (p - 1) 0) ⌝ }
     requires { ⌜ Runs p l (now row) ⌝ }
     ensures { λ r. ⌜ ((z : Areas) → answered r z ≡
         answer (withBoxes (tookFront (stateOf k .boxes) (p - 1)) (withRests (set (k .rests) (p - 1) (getD (now (row .entry)) 0 0)) (withHand (l .hand) (stateOf k))))

@@ -1,7 +1,9 @@
 // Subscriptions.
 ghost use mathlib.Core.Path.{_≡_};
 ghost use Prim.Native.Nat.{_≤_};
+ghost use Rattle.chart.specs.Numbers.{lastSignal};
 ghost use Rattle.machine.specs.Events as machine;
+ghost use Rattle.machine.specs.Numbers.{objects};
 ghost use Rattle.machine.specs.Reply.{Areas, lowest};
 ghost use Rattle.commands.specs.View.{answered, stateOf};
 use super::Answered;
@@ -20,7 +22,7 @@ const NOT_SUBSCRIBED: u8 = 0;
 
 // Object p subscribes to g from now on, or does not.
 fn wanting(k: Kernel, p: usize, g: usize, v: u8) -> Kernel
-    requires { ⌜ (1 ≤ p) × (p ≤ 16) × (g ≤ 31) ⌝ }
+    requires { ⌜ (1 ≤ p) × (p ≤ objects) × (g ≤ lastSignal) ⌝ }
     ensures { λ r. ⌜ stateOf r ≡ machine.wanting (stateOf k) p g v ⌝ }
 {
     let mut next = k;

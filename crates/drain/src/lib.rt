@@ -4,7 +4,7 @@ ghost use mathlib.Core.Path.{_≡_};
 ghost use Prim.Native.Nat.{_+_, _-_, _<_, _≤_};
 ghost use lib.ListN.{getD, length};
 ghost use Rattle.machine.specs.Inv.{IsEvent};
-ghost use Rattle.machine.specs.Numbers.{tableBytes};
+ghost use Rattle.machine.specs.Numbers.{tableBytes, objects};
 ghost use Rattle.machine.specs.Reply.{replyOf, ran};
 ghost use Rattle.machine.specs.Run.{FitFor, FitRun, blockOf, runFrom, seen};
 ghost use Rattle.machine.specs.State.{State};
@@ -124,7 +124,7 @@ fn take_step(
     n: usize,
 )
     requires { ⌜ Sized (now places) (now heads) (now counts) (now gone) (now log) ⌝ }
-    requires { ⌜ (q < 16) × (0 < getD (now counts) q 0) × (n < 255) ⌝ }
+    requires { ⌜ (q < objects) × (0 < getD (now counts) q 0) × (n < 255) ⌝ }
     requires { ⌜ Runs (q + 1) l (now row) ⌝ }
     ensures { λ _. ⌜ Acts (now (places .entry)) (now (heads .entry)) (now (counts .entry)) (now (rests .entry)) (now (gone .entry)) (now (log .entry))
         (now (gens .entry)) (now (row .entry)) q l n (now (heads .exit)) (now (counts .exit)) (now (rests .exit)) (now (gone .exit)) (now (log .exit)) ⌝ }

@@ -6,6 +6,7 @@ ghost use lib.ListN.{getD, length};
 ghost use Rattle.machine.specs.Events.{readPart};
 ghost use Rattle.machine.specs.Machine as machine;
 ghost use Rattle.machine.specs.Machine.{command};
+ghost use Rattle.machine.specs.Numbers.{recordBytes};
 ghost use Rattle.machine.specs.Reply.{Areas};
 ghost use Rattle.commands.specs.View.{answered, areas, Good, stateOf};
 use commands::Answered;
@@ -90,7 +91,7 @@ pub fn start_command(k: Kernel, record: &[u8], tables: &[u8]) -> Answered
 // NEW signal, size, payload.
 pub fn new_command(k: Kernel, record: &[u8], payloads: &mut [u8]) -> Answered
     requires { ⌜ Good k ⌝ }
-    requires { ⌜ length (now «record») ≡ 72 ⌝ }
+    requires { ⌜ length (now «record») ≡ recordBytes ⌝ }
     ensures { λ r. ⌜ ((d t l : List ℕ) → answered r (areas (now (payloads .exit)) t l)
         ≡ command 3 (now («record» .entry)) d (stateOf k) (areas (now (payloads .entry)) t l)) ⌝ }
 {

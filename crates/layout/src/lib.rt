@@ -7,7 +7,7 @@ ghost use Rattle.chart.specs.Flat.{rowAt, slotBytes};
 ghost use Rattle.chart.specs.Numbers.{slotSize};
 ghost use Rattle.ground.specs.Bytes.{padded};
 ghost use Rattle.machine.specs.Charts.{startRow};
-ghost use Rattle.machine.specs.Numbers.{capacity, placeOf};
+ghost use Rattle.machine.specs.Numbers.{capacity, placeOf, blocks, payloadBytes, slots, tableBytes};
 ghost use Rattle.machine.specs.Reply.{over};
 use numbers::LARGE;
 use numbers::LARGE_BYTES;
@@ -18,9 +18,9 @@ use numbers::SLOT_BYTES;
 use numbers::SMALL_BYTES;
 
 // Where the first block of 32 bytes and the first of 64 begin in the payload area.
-const MIDDLE_PLACE: usize = 512;
+const MIDDLE_PLACE: usize = SMALL_BYTES * MIDDLE;
 
-const LARGE_PLACE: usize = 1024;
+const LARGE_PLACE: usize = MIDDLE_PLACE + MIDDLE_BYTES * (LARGE - MIDDLE);
 
 // How many bytes block b holds.
 fn capacity_of(b: usize) -> usize
@@ -37,8 +37,8 @@ fn capacity_of(b: usize) -> usize
 
 // Where block b begins in the payload area.
 pub fn place_of(b: usize) -> usize
-    requires { ⌜ b < 56 ⌝ }
-    ensures { λ r. ⌜ (r ≡ placeOf b) × (r < 1536) ⌝ }
+    requires { ⌜ b < blocks ⌝ }
+    ensures { λ r. ⌜ (r ≡ placeOf b) × (r < payloadBytes) ⌝ }
 {
     if b < MIDDLE {
         return SMALL_BYTES * b;
@@ -51,7 +51,7 @@ pub fn place_of(b: usize) -> usize
 
 // The payload goes to the place of block b; the rest of the block is 0.
 pub fn put_payload(b: usize, payload: &[u8], payloads: &mut [u8])
-    requires { ⌜ (b < 56) × (length (now payloads) ≡ 1536) ⌝ }
+    requires { ⌜ (b < blocks) × (length (now payloads) ≡ payloadBytes) ⌝ }
     ensures { λ _. ⌜ now (payloads .exit) ≡ over (now (payloads .entry)) (placeOf b) (padded (capacity b) (now (payload .entry))) ⌝ }
 {
     let at = place_of(b);
@@ -61,7 +61,7 @@ pub fn put_payload(b: usize, payload: &[u8], payloads: &mut [u8])
 
 // Slot q is filled from a good chart; a refused one leaves it. The class of the chart's fault, or 0.
 pub fn fill_slot(q: usize, chart: &[u8], tables: &mut [u8]) -> u32
-    requires { ⌜ (q < 4) × (length (now tables) ≡ 64608) ⌝ }
+    requires { ⌜ (q < slots) × (length (now tables) ≡ tableBytes) ⌝ }
     ensures { λ r. ⌜ r ≡ classOf (now (chart .entry)) ⌝ }
     ensures { λ r. ⌜ (r ≡ 0 → now (tables .exit) ≡ over (now (tables .entry)) (slotSize * q) (slotBytes (now (chart .entry)))) ⌝ }
     ensures { λ r. ⌜ ((r ≡ 0 → ⊥) → now (tables .exit) ≡ now (tables .entry)) ⌝ }

@@ -5,13 +5,15 @@ use mathlib.Core.Path.{_≡_}
 use Prim.Native.Nat.{ℕ, _+_, _*_, _-_, _≤_, _<_}
 use lib.Dec.{eqb}
 use lib.ListN.{length, getD}
+use Rattle.chart.specs.Numbers.{mostStates}
+use Rattle.mail.specs.Box as box
 use Rattle.mail.specs.Box.{boxAt, occurrences, one}
 use Rattle.mail.specs.Entry.{entryOf, handOf}
 use Rattle.mail.specs.declared.Hand.{Hand}
 use Rattle.mail.specs.declared.Hand.the-variants.{Nothing, Block, Timer}
 use Rattle.pool.specs.Cell.{Cell, free, live, absent}
 use Rattle.pool.specs.Row.{at}
-use Rattle.machine.specs.Numbers.{objects, blocks, timers, slots, mostHolds, capacity}
+use Rattle.machine.specs.Numbers.{objects, blocks, timers, slots, mostHolds, signalPlaces, capacity}
 use Rattle.machine.specs.State.{State, Events, Objects, Timers}
 
 -- What refers to block b: its mailbox entries, its holds, the step in hand.
@@ -62,7 +64,7 @@ pub record StoreOk (cells : List Cell) (e : Events) : Type 0 where
 -- The mailboxes: none is fuller than it is deep, none deeper than 16, and every entry is an event.
 pub record MailOk (boxes : List (List ℕ)) (depths : List ℕ) : Type 0 where
   pub boxes-length : length boxes ≡ objects
-  pub deep : (q : ℕ) → getD depths q 0 ≤ 16
+  pub deep : (q : ℕ) → getD depths q 0 ≤ box.room
   pub room : (q : ℕ) → length (boxAt boxes q) ≤ getD depths q 0
   pub entries : (q i : ℕ) → i < length (boxAt boxes q) → IsEvent (handOf (getD (boxAt boxes q) i 0))
 
@@ -72,13 +74,13 @@ pub record ObjectsOk (o : Objects) (loaded : List ℕ) : Type 0 where
   pub rests-length : length (o .rests) ≡ objects
   pub seats-length : length (o .seats) ≡ objects
   pub loaded-length : length loaded ≡ slots
-  pub rested : (q : ℕ) → 0 < getD (o .depths) q 0 → (1 ≤ getD (o .rests) q 0) × (getD (o .rests) q 0 ≤ 24)
+  pub rested : (q : ℕ) → 0 < getD (o .depths) q 0 → (1 ≤ getD (o .rests) q 0) × (getD (o .rests) q 0 ≤ mostStates)
   pub seated : (q : ℕ) → 0 < getD (o .depths) q 0 → (getD (o .seats) q 0 < slots) × (getD loaded (getD (o .seats) q 0) 0 ≡ 1)
 
 -- Subscribers are started.
 pub record WantsOk (wants depths : List ℕ) : Type 0 where
-  pub wants-length : length wants ≡ 32 * objects
-  pub wanted : (q g : ℕ) → g < 32 → getD wants (32 * q + g) 0 ≡ 1 → 0 < getD depths q 0
+  pub wants-length : length wants ≡ signalPlaces * objects
+  pub wanted : (q g : ℕ) → g < signalPlaces → getD wants (signalPlaces * q + g) 0 ≡ 1 → 0 < getD depths q 0
 
 -- An armed timer has a started object and a signal.
 pub record ArmedOk (depths : List ℕ) (p g : ℕ) : Type 0 where

@@ -2,7 +2,8 @@
 use mathlib.Core.Bool.{Bool, cond, _||_}
 use Prim.Native.Nat.{ℕ, _+_, _*_, _-_}
 use lib.Dec.{ltb}
-use Rattle.chart.specs.Numbers.{slotSize}
+use Rattle.chart.specs.Numbers.{slotSize, firstSignal, lastSignal}
+use Rattle.mail.specs.Box.{room}
 pub use Rattle.mail.specs.Box.{objects}
 pub use Rattle.pool.specs.Row.{blocks}
 
@@ -15,7 +16,11 @@ slots = 4
 abbrev pub mostHolds : ℕ
 mostHolds = 15
 
--- The bytes of a record, of a reply, and of the areas: payloads, tables, log.
+-- Each object has a place for every number below 32, which says whether it subscribes to that signal.
+abbrev pub signalPlaces : ℕ
+signalPlaces = 32
+
+-- The bytes of a record, of a reply, and of the areas: payloads, tables, log, which has a line for each of the most steps of a DRAIN.
 abbrev pub recordBytes : ℕ
 recordBytes = 72
 
@@ -28,8 +33,11 @@ payloadBytes = 1536
 abbrev pub tableBytes : ℕ
 tableBytes = slots * slotSize
 
+abbrev pub mostSteps : ℕ
+mostSteps = 255
+
 abbrev pub logBytes : ℕ
-logBytes = 255 * replyBytes
+logBytes = mostSteps * replyBytes
 
 -- n is not one of low to high.
 unfoldable pub outside : ℕ → ℕ → ℕ → Bool
@@ -39,10 +47,10 @@ abbrev pub noObject : ℕ → Bool
 noObject p = outside 1 objects p
 
 abbrev pub noDepth : ℕ → Bool
-noDepth n = outside 1 16 n
+noDepth n = outside 1 room n
 
 abbrev pub noSignal : ℕ → Bool
-noSignal g = outside 4 31 g
+noSignal g = outside firstSignal lastSignal g
 
 abbrev pub noTimer : ℕ → Bool
 noTimer t = outside 0 15 t

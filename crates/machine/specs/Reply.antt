@@ -3,6 +3,7 @@ use mathlib.Core.Bool.{Bool, true, false, cond}
 use mathlib.Core.List.{List, [], _∷_, _++_}
 use Prim.Native.Nat.{ℕ, zero, suc, _+_, _*_}
 use lib.ListN.{length, getD, take, drop}
+use Rattle.chart.specs.Numbers.{mostActions}
 use Rattle.ground.specs.Bytes.{padded}
 use Rattle.machine.specs.State.{State}
 
@@ -65,14 +66,14 @@ pub data Said : Type 0 where
 
 -- Reply number, object, outcome × 32 + signal, count, two value bytes, 18 actions.
 unfoldable pub bytes : ℕ → ℕ → ℕ → ℕ → ℕ → ℕ → ℕ → List ℕ → List ℕ
-bytes n p outcome g count v w acts = n ∷ p ∷ (outcome * 32 + g) ∷ count ∷ v ∷ w ∷ padded 18 acts
+bytes n p outcome g count v w acts = n ∷ p ∷ (outcome * 32 + g) ∷ count ∷ v ∷ w ∷ padded mostActions acts
 
 unfoldable pub replyOf : Said → List ℕ
 replyOf (no n) = bytes n 0 0 0 0 0 0 []
 replyOf (badChart c) = bytes CHART 0 0 0 0 c 0 []
 replyOf (done v w) = bytes DONE 0 0 0 0 v w []
 replyOf (ran p g v w row) = bytes DONE p (getD row 1 0) g (getD row 2 0) v w (drop 3 row)
-replyOf (shown l) = bytes DONE 0 0 0 (length (take 18 l)) (length l) 0 l
+replyOf (shown l) = bytes DONE 0 0 0 (length (take mostActions l)) (length l) 0 l
 
 -- The areas that a call is lent, and what it answers: the state, the reply, and the areas.
 pub record Areas : Type 0 where

@@ -9,7 +9,7 @@ use Rattle.mail.specs.declared.Hand.{Hand}
 use Rattle.mail.specs.declared.Hand.the-variants.{Nothing, Block, Timer}
 use Rattle.pool.specs.Cell.{Cell}
 use Rattle.pool.specs.Row.{freshRow}
-use Rattle.machine.specs.Numbers.{objects, blocks, timers, slots}
+use Rattle.machine.specs.Numbers.{objects, blocks, timers, slots, signalPlaces}
 
 -- Of the event in each of the 56 blocks: its signal, its size, its holds.
 pub record Events : Type 0 where
@@ -51,7 +51,7 @@ freshState = record {
   events = record { signals = replicate blocks 0; sizes = replicate blocks 0; holds = replicate blocks 0 };
   boxes = replicate objects [];
   objects = record { depths = replicate objects 0; rests = replicate objects 0; seats = replicate objects 0 };
-  wants = replicate (32 * objects) 0;
+  wants = replicate (signalPlaces * objects) 0;
   loaded = replicate slots 0;
   timers = record { owners = replicate timers 0; alarms = replicate timers 0; counters = replicate timers 0; intervals = replicate timers 0 };
   hand = Nothing;
@@ -90,7 +90,7 @@ abbrev pub isLoaded : State → ℕ → Bool
 isLoaded s q = eqb (getD (s .loaded) q 0) 1
 
 abbrev pub wantPlace : ℕ → ℕ → ℕ
-wantPlace p g = 32 * (p - 1) + g
+wantPlace p g = signalPlaces * (p - 1) + g
 
 abbrev pub subscribed : State → ℕ → ℕ → Bool
 subscribed s p g = eqb (getD (s .wants) (wantPlace p g) 0) 1

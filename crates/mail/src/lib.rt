@@ -4,21 +4,22 @@ ghost use mathlib.Core.List.{List};
 ghost use mathlib.Core.Path.{_≡_};
 ghost use Prim.Native.Nat.{ℕ, _+_, _-_, _<_, _≤_};
 ghost use lib.ListN.{getD, length, set};
-ghost use Rattle.mail.specs.Box.{pushBack, pushFront, tookFront, front, highest};
+ghost use Rattle.mail.specs.Box.{pushBack, pushFront, tookFront, front, highest, objects, room};
 ghost use Rattle.mail.specs.Entry.{entryOf, handOf};
 ghost use Rattle.mail.specs.Inside.{placeOf, boxes, Mail, Holds};
 use ground::wide;
 use numbers::ALL_PLACES;
 use numbers::OBJECTS;
 use numbers::PLACES;
+use numbers::SIGNAL_PLACES;
 
-// One place back in a ring is fifteen on.
-const ONE_BACK: usize = 15;
+// One place back in a ring is so many on.
+const ONE_BACK: usize = PLACES - 1;
 
 // Entry 0 is nothing, 1 to 63 are the blocks; from 64 on each timer has an entry for every signal.
 const FIRST_TIMER: u16 = 64;
 
-const SIGNALS: u16 = 32;
+const SIGNALS: u16 = SIGNAL_PLACES as u16;
 
 const BYTES: u16 = 256;
 
@@ -31,7 +32,7 @@ pub enum Hand {
 
 // The place of entry i, counted from the front, in the mailbox of object q with its head at h.
 fn place(q: usize, h: usize, i: usize) -> usize
-    requires { ⌜ (q < 16) × (h < 256) × (i < 256) ⌝ }
+    requires { ⌜ (q < objects) × (h < 256) × (i < 256) ⌝ }
     ensures { λ r. ⌜ (r ≡ placeOf q h i) × (r < 256) ⌝ }
 {
     PLACES * q + (h + i) % PLACES
@@ -45,7 +46,7 @@ pub fn push_back(
     e: u16,
 )
     requires { ⌜ Mail (now places) (now heads) (now counts) ⌝ }
-    requires { ⌜ (q < 16) × (getD (now counts) q 0 < 16) ⌝ }
+    requires { ⌜ (q < objects) × (getD (now counts) q 0 < room) ⌝ }
     ensures { λ r. ⌜ Holds (now (places .exit)) (now (heads .entry)) (now (counts .exit))
         (pushBack (boxes (now (places .entry)) (now (heads .entry)) (now (counts .entry))) q e) ⌝ }
     ensures { λ r. ⌜ now (counts .exit) ≡ set (now (counts .entry)) q (getD (now (counts .entry)) q 0 + 1) ⌝ }
@@ -64,7 +65,7 @@ pub fn push_front(
     e: u16,
 )
     requires { ⌜ Mail (now places) (now heads) (now counts) ⌝ }
-    requires { ⌜ (q < 16) × (getD (now counts) q 0 < 16) ⌝ }
+    requires { ⌜ (q < objects) × (getD (now counts) q 0 < room) ⌝ }
     ensures { λ r. ⌜ Holds (now (places .exit)) (now (heads .exit)) (now (counts .exit))
         (pushFront (boxes (now (places .entry)) (now (heads .entry)) (now (counts .entry))) q e) ⌝ }
     ensures { λ r. ⌜ now (counts .exit) ≡ set (now (counts .entry)) q (getD (now (counts .entry)) q 0 + 1) ⌝ }
@@ -84,7 +85,7 @@ pub fn take_front(
     q: usize,
 ) -> u16
     requires { ⌜ Mail (now places) (now heads) (now counts) ⌝ }
-    requires { ⌜ (q < 16) × (0 < getD (now counts) q 0) ⌝ }
+    requires { ⌜ (q < objects) × (0 < getD (now counts) q 0) ⌝ }
     ensures { λ r. ⌜ Holds (now (places .entry)) (now (heads .exit)) (now (counts .exit))
         (tookFront (boxes (now (places .entry)) (now (heads .entry)) (now (counts .entry))) q) ⌝ }
     ensures { λ r. ⌜ r ≡ front (boxes (now (places .entry)) (now (heads .entry)) (now (counts .entry))) q ⌝ }
@@ -105,7 +106,7 @@ pub fn front(
     counts: &[u8; OBJECTS],
     q: usize,
 ) -> u16
-    requires { ⌜ (q < 16) × (0 < getD (now counts) q 0) ⌝ }
+    requires { ⌜ (q < objects) × (0 < getD (now counts) q 0) ⌝ }
     ensures { λ r. ⌜ r ≡ front (boxes (now (places .entry)) (now (heads .entry)) (now (counts .entry))) q ⌝ }
 {
     places[place(q, wide(heads[q]), 0)]
@@ -114,7 +115,7 @@ pub fn front(
 // The highest object with mail, counted from 1; 0 where nothing is queued. The counts alone say it.
 pub fn highest(counts: &[u8; OBJECTS]) -> usize
     ensures { λ r. ⌜ ((places heads : List ℕ) → r ≡ highest (boxes places heads (now (counts .entry)))) ⌝ }
-    ensures { λ r. ⌜ r ≤ 16 ⌝ }
+    ensures { λ r. ⌜ r ≤ objects ⌝ }
 {
     let mut p: usize = OBJECTS;
     while 0 < p {
@@ -128,7 +129,7 @@ pub fn highest(counts: &[u8; OBJECTS]) -> usize
 
 // What an array has of object p, counted from 1; 0 where there is no such object.
 pub fn of_object(a: &[u8; OBJECTS], p: usize) -> usize
-    requires { ⌜ length (now a) ≡ 16 ⌝ }
+    requires { ⌜ length (now a) ≡ objects ⌝ }
     ensures { λ r. ⌜ (r ≡ getD (now (a .entry)) (p - 1) 0) × (r < 256) ⌝ }
 {
     if p == 0 {

@@ -8,7 +8,7 @@ pub const OBJECTS: usize = 16;
 
 pub const PLACES: usize = 16;
 
-pub const ALL_PLACES: usize = 256;
+pub const ALL_PLACES: usize = OBJECTS * PLACES;
 
 // Signals are 4 to 31. Of each object there is a place for every number below 32, which says whether it subscribes.
 pub const FIRST_SIGNAL: usize = 4;
@@ -17,7 +17,7 @@ pub const LAST_SIGNAL: usize = 31;
 
 pub const SIGNAL_PLACES: usize = 32;
 
-pub const ALL_SIGNAL_PLACES: usize = 512;
+pub const ALL_SIGNAL_PLACES: usize = OBJECTS * SIGNAL_PLACES;
 
 pub const TIMERS: usize = 16;
 
@@ -33,6 +33,8 @@ pub const MIDDLE_BYTES: usize = 32;
 pub const LARGE: usize = 48;
 
 pub const LARGE_BYTES: usize = 64;
+
+pub const LONGEST_CHART: usize = 5576;
 
 // A flat table: its rows, where their actions begin and how many there can be, its slots.
 pub const ROW_BYTES: usize = 24;
@@ -52,8 +54,8 @@ pub const REPLY_BYTES: usize = 24;
 
 pub const PAYLOAD_AREA: usize = 1536;
 
-pub const TABLE_AREA: usize = 64608;
-
-pub const LOG_AREA: usize = 6120;
+pub const TABLE_AREA: usize = SLOTS * SLOT_BYTES;
 
 pub const MOST_STEPS: usize = 255;
+
+pub const LOG_AREA: usize = MOST_STEPS * REPLY_BYTES;

@@ -11,12 +11,12 @@ use numbers::TABLE_AREA;
 use numbers::command::LOAD;
 
 // One byte more than a chart may have, so that a longer file is handed on as a chart that is too long.
-const CHART_BYTES: usize = 5577;
+const CHART_BYTES: usize = numbers::LONGEST_CHART + 1;
 
 // The folder in which a program is started, by a letter as every folder of charts.
 pub const HERE: u8 = b'.';
 
-const SLOTS: u8 = 4;
+const SLOTS: u8 = numbers::SLOTS as u8;
 
 // Reads the file of a slot's chart, and answers how many bytes it has. A file that is missing has none.
 fn read_chart(folder: u8, slot: u8, chart: &mut [u8]) -> usize

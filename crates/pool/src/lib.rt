@@ -7,7 +7,7 @@ ghost use Rattle.ground.specs.Range.{firstFrom, tab};
 ghost use Rattle.pool.specs.Cell.{isFree, isNew, atLast, nextGeneration, more, fewer, dropped};
 ghost use Rattle.pool.specs.Inside.{cells, freed, rowOf, Sized};
 ghost use Rattle.pool.specs.Promise.{Takes, Frees};
-ghost use Rattle.pool.specs.Row.{at, changed, freshRow, generationAt, staleAt, poolFor, lowestFree, goneAll};
+ghost use Rattle.pool.specs.Row.{at, changed, freshRow, generationAt, staleAt, poolFor, lowestFree, goneAll, blocks};
 use ground::wide;
 use numbers::BLOCKS;
 use numbers::LARGE;
@@ -93,7 +93,7 @@ fn pool_for(size: usize) -> Span
 
 // The lowest free block from `from` up to `to`, or `to` where none is. The generations have no part in it.
 fn lowest(counts: &[u16; BLOCKS], from: usize, to: usize) -> usize
-    requires { ⌜ to ≤ 56 ⌝ }
+    requires { ⌜ to ≤ blocks ⌝ }
     ensures { λ r. ⌜ ((gens : List ℕ) → r ≡ firstFrom (λ b. isFree (at (rowOf gens (now (counts .entry))) b)) from (to - from)) ⌝ }
 {
     let mut b = from;
@@ -155,7 +155,7 @@ fn next_generation(g: u8) -> u8
 
 // Block b is free, one generation on.
 fn set_free(gens: &mut [u8; BLOCKS], counts: &mut [u16; BLOCKS], b: usize)
-    requires { ⌜ Sized (now gens) (now counts) × (b < 56) ⌝ }
+    requires { ⌜ Sized (now gens) (now counts) × (b < blocks) ⌝ }
     ensures { λ _. ⌜ rowOf (now (gens .exit)) (now (counts .exit)) ≡ changed freed (rowOf (now (gens .entry)) (now (counts .entry))) b ⌝ }
     ensures { λ _. ⌜ Sized (now (gens .exit)) (now (counts .exit)) ⌝ }
 {
@@ -248,7 +248,7 @@ pub fn generation(p: Pool, b: usize) -> u8
 
 // The generation of every block.
 pub fn generations(p: Pool) -> [u8; BLOCKS]
-    ensures { λ r. ⌜ r ≡ tab (generationAt (cells p)) 56 ⌝ }
+    ensures { λ r. ⌜ r ≡ tab (generationAt (cells p)) blocks ⌝ }
 {
     p.gens
 }

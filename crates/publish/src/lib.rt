@@ -7,7 +7,9 @@ ghost use lib.Dec.{eqb};
 ghost use lib.ListN.{getD, length};
 ghost use Rattle.machine.specs.Events as machine;
 ghost use Rattle.machine.specs.Events.{fullReceiver, posted, published};
+ghost use Rattle.machine.specs.Numbers.{blocks, objects};
 ghost use Rattle.machine.specs.State.{State, wantPlace};
+ghost use Rattle.mail.specs.Box.{room};
 ghost use Rattle.mail.specs.View.{Mail};
 ghost use Rattle.publish.specs.Arrays.{HavePlaces, Reads, holding};
 use ground::byte_at;
@@ -23,7 +25,7 @@ use pool::Pool;
 // What the subscriptions keep of one object: a place for each signal.
 // Whether object p subscribes to signal g.
 pub fn subscribes(wants: &[u8; ALL_SIGNAL_PLACES], p: usize, g: usize) -> bool
-    requires { ⌜ (1 ≤ p) × (p ≤ 16) × (g < 256) ⌝ }
+    requires { ⌜ (1 ≤ p) × (p ≤ objects) × (g < 256) ⌝ }
     ensures { λ r. ⌜ r ≡ eqb (getD (now (wants .entry)) (wantPlace p g) 0) 1 ⌝ }
 {
     byte_at(wants, SIGNAL_PLACES * (p - 1) + g) == 1
@@ -32,7 +34,7 @@ pub fn subscribes(wants: &[u8; ALL_SIGNAL_PLACES], p: usize, g: usize) -> bool
 // How many objects subscribe to signal g.
 pub fn receivers(wants: &[u8; ALL_SIGNAL_PLACES], g: usize) -> u8
     requires { ⌜ g < 256 ⌝ }
-    ensures { λ r. ⌜ ((s : State) → s .wants ≡ now (wants .entry) → r ≡ machine.receivers s g 16) ⌝ }
+    ensures { λ r. ⌜ ((s : State) → s .wants ≡ now (wants .entry) → r ≡ machine.receivers s g objects) ⌝ }
 {
     let mut n: u8 = 0;
     let mut p = OBJECTS;
@@ -51,7 +53,7 @@ fn is_full(
     p: usize,
     g: usize,
 ) -> bool
-    requires { ⌜ (1 ≤ p) × (p ≤ 16) × (g < 256) × (length (now depths) ≡ 16) × (length (now counts) ≡ 16) ⌝ }
+    requires { ⌜ (1 ≤ p) × (p ≤ objects) × (g < 256) × (length (now depths) ≡ objects) × (length (now counts) ≡ objects) ⌝ }
     ensures { λ r. ⌜ r ≡ cond (eqb (getD (now (wants .entry)) (wantPlace p g) 0) 1) (eqb (getD (now (depths .entry)) (p - 1) 0 - getD (now (counts .entry)) (p - 1) 0) 0) false ⌝ }
 {
     if !subscribes(wants, p, g) {
@@ -67,8 +69,8 @@ pub fn any_full(
     counts: &[u8; OBJECTS],
     g: usize,
 ) -> bool
-    requires { ⌜ (g < 256) × (length (now depths) ≡ 16) × (length (now counts) ≡ 16) ⌝ }
-    ensures { λ r. ⌜ ((s : State) → Reads s (now (wants .entry)) (now (depths .entry)) (now (counts .entry)) → r ≡ fullReceiver s g 16) ⌝ }
+    requires { ⌜ (g < 256) × (length (now depths) ≡ objects) × (length (now counts) ≡ objects) ⌝ }
+    ensures { λ r. ⌜ ((s : State) → Reads s (now (wants .entry)) (now (depths .entry)) (now (counts .entry)) → r ≡ fullReceiver s g objects) ⌝ }
 {
     let mut p = OBJECTS;
     while 0 < p {
@@ -91,7 +93,7 @@ fn post_to(
     p: usize,
 ) -> Pool
     requires { ⌜ Mail (now places) (now heads) (now counts) ⌝ }
-    requires { ⌜ (b < 56) × (1 ≤ p) × (p ≤ 16) × (receives ≡ true → getD (now counts) (p - 1) 0 < 16) ⌝ }
+    requires { ⌜ (b < blocks) × (1 ≤ p) × (p ≤ objects) × (receives ≡ true → getD (now counts) (p - 1) 0 < room) ⌝ }
     ensures { λ r. ⌜ Mail (now (places .exit)) (now (heads .entry)) (now (counts .exit)) ⌝ }
     ensures { λ r. ⌜ ((q : ℕ) → (q ≡ p - 1 → ⊥) → getD (now (counts .exit)) q 0 ≡ getD (now (counts .entry)) q 0) ⌝ }
     ensures { λ r. ⌜ ((s : State) → holding s r (now (places .exit)) (now (heads .entry)) (now (counts .exit))
@@ -117,9 +119,9 @@ pub fn post_to_all(
     g: usize,
 ) -> Pool
     requires { ⌜ Mail (now places) (now heads) (now counts) ⌝ }
-    requires { ⌜ (b < 56) × (g < 256) × HavePlaces (now wants) (now counts) g 16 ⌝ }
+    requires { ⌜ (b < blocks) × (g < 256) × HavePlaces (now wants) (now counts) g objects ⌝ }
     ensures { λ r. ⌜ ((s : State) → s .wants ≡ now (wants .entry) → holding s r (now (places .exit)) (now (heads .entry)) (now (counts .exit))
-        ≡ published (holding s pool (now (places .entry)) (now (heads .entry)) (now (counts .entry))) g b 16) ⌝ }
+        ≡ published (holding s pool (now (places .entry)) (now (heads .entry)) (now (counts .entry))) g b objects) ⌝ }
 {
     let mut left = pool;
     let mut p = OBJECTS;

@@ -8,11 +8,14 @@ ghost use Rattle.machine.specs.Reply as said;
 ghost use Rattle.machine.specs.Reply.{lowest};
 use super::first;
 use super::outside;
+use numbers::BLOCKS;
 use numbers::FIRST_SIGNAL;
 use numbers::LARGE_BYTES;
 use numbers::LAST_SIGNAL;
 use numbers::OBJECTS;
 use numbers::PLACES;
+use numbers::SLOTS;
+use numbers::TIMERS;
 use numbers::answer::ABSENT;
 use numbers::answer::AREA;
 use numbers::answer::BUSY;
@@ -26,13 +29,13 @@ use numbers::answer::STALE;
 use numbers::answer::TABLE;
 use numbers::answer::TAKEN;
 
-const LAST_TIMER: usize = 15;
+const LAST_TIMER: usize = TIMERS - 1;
 
-const LAST_SLOT: usize = 3;
+const LAST_SLOT: usize = SLOTS - 1;
 
-const LAST_BLOCK: usize = 55;
+const LAST_BLOCK: usize = BLOCKS - 1;
 
-const WIDEST: usize = 15;
+const WIDEST: usize = PLACES - 1;
 
 // LOAD.
 pub fn load_refusal(spoilt: bool, bad: bool, q: usize, busy: bool, used: bool) -> u8

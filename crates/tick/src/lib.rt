@@ -3,8 +3,9 @@ ghost use mathlib.Core.Path.{_≡_};
 ghost use Prim.Native.Nat.{_+_, _-_, _<_, _≤_};
 ghost use lib.ListN.{getD};
 ghost use Rattle.machine.specs.Clocks.{ticked, tickAll, tickTimer};
+ghost use Rattle.machine.specs.Numbers.{objects, timers};
 ghost use Rattle.machine.specs.State.{State};
-ghost use Rattle.mail.specs.Box.{pushBack};
+ghost use Rattle.mail.specs.Box.{pushBack, room};
 ghost use Rattle.mail.specs.Entry.{entryOf};
 ghost use Rattle.mail.specs.View.{boxes, Holds, Mail};
 ghost use Rattle.mail.specs.declared.Hand.the-variants.{Timer};
@@ -55,7 +56,7 @@ fn fire(
     g: u8,
 )
     requires { ⌜ Mail (now places) (now heads) (now counts) ⌝ }
-    requires { ⌜ (t < 16) × (1 ≤ p) × (p ≤ 16) × (getD (now counts) (p - 1) 0 < 16) ⌝ }
+    requires { ⌜ (t < timers) × (1 ≤ p) × (p ≤ objects) × (getD (now counts) (p - 1) 0 < room) ⌝ }
     ensures { λ r. ⌜ Holds (now (places .exit)) (now (heads .entry)) (now (counts .exit))
         (pushBack (boxes (now (places .entry)) (now (heads .entry)) (now (counts .entry))) (p - 1) (entryOf (Timer t g))) ⌝ }
 {
@@ -77,7 +78,7 @@ fn tick_timer(
     ticks: Ticks,
 ) -> Ticks
     requires { ⌜ Ready (now places) (now heads) (now counts) (now counters) (now depths) (now owners) (now alarms) (now intervals) ⌝ }
-    requires { ⌜ (t < 16) × (ticks .fired ≤ t) × (ticks .late ≤ t) ⌝ }
+    requires { ⌜ (t < timers) × (ticks .fired ≤ t) × (ticks .late ≤ t) ⌝ }
     ensures { λ r. ⌜ Ready (now (places .exit)) (now (heads .entry)) (now (counts .exit)) (now (counters .exit))
         (now (depths .entry)) (now (owners .entry)) (now (alarms .entry)) (now (intervals .entry)) ⌝ }
     ensures { λ r. ⌜ (r .fired ≤ t + 1) × (r .late ≤ t + 1) ⌝ }

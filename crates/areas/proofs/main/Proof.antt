@@ -1,0 +1,35 @@
+-- The kernel stays good, the areas keep their lengths; the measure is the number of turns that are left.
+use mathlib.Core.Path.{_≡_}
+use lib.ListN.{length}
+use borrow.Author.Needs.{needs}
+use Rattle.commands.specs.View.{Good}
+use Rattle.areas.proofs.main.Statement.{statement}
+use Rattle.areas.proofs.main.Tie as tie
+
+abbrev Inv-loop : tie.InvT-loop
+Inv-loop payloads₀ tables₀ log₀ run₀ turns₀ payloads tables log run turns =
+    (Good (run .kernel))
+    × (length payloads ≡ 1537)
+    × (length tables ≡ 64609)
+    × (length log ≡ 6121)
+
+abbrev μ-loop : tie.MeasureT-loop
+μ-loop payloads₀ tables₀ log₀ run₀ turns₀ payloads tables log run turns = turns
+
+pub main-spec : {M : Type 1} → statement M
+main-spec =
+    tie.close
+    (tie.spec
+    Inv-loop
+    μ-loop
+    (λ c κs. search needs)
+    (λ c. search needs)
+    (λ c. search needs)
+    (λ c. search needs)
+    (λ c. search needs)
+    (λ c κs. search needs)
+    (λ c. search needs)
+    (λ c. search needs)
+    (λ c. search needs)
+    (λ c. search needs)
+    (λ c. search needs))
