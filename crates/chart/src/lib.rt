@@ -1,62 +1,18 @@
-// The chart check and the flattener of document 01, and the reading of a flat table's rows.
-mod faults;
-mod read;
+// Charts: reading one, what it does, its flat table, and the reading of that table's rows.
+pub mod read;
 mod step;
-mod table;
+pub mod table;
 
 ghost use mathlib.Core.Path.{_≡_};
-ghost use Rattle.chart.specs.Chart.{classOf, states};
-ghost use Rattle.chart.specs.Flat.{flattened, place, sound};
-use faults::*;
+ghost use Rattle.chart.specs.Flat.{place, sound};
 use ground::blank;
 use ground::wide;
 use numbers::ACTIONS_IN_ROW;
 use numbers::MOST_ACTIONS;
 use numbers::ROW_BYTES;
-use numbers::SLOT_BYTES;
-use read::*;
-use table::*;
-
-// The class of a chart's fault, the lowest that applies; 0 for a good chart.
-#[no_mangle]
-pub extern "C" fn chart_check(chart: &[u8]) -> u32
-    ensures { λ r. ⌜ r ≡ classOf (now (chart .entry)) ⌝ }
-{
-    if !length_ok(chart) {
-        return 1;
-    }
-    let n = state_count(chart);
-    if !forms_ok(chart, n) {
-        return 2;
-    }
-    if !tree_ok(chart, n) {
-        return 3;
-    }
-    if rows_ok(chart, n) { 0 } else { 4 }
-}
-
-// Fills a slot from a chart: 0, the class of the chart's fault, or 5 if the slot has another length. Only with 0 is the slot written.
-#[no_mangle]
-pub extern "C" fn chart_flatten(chart: &[u8], table: &mut [u8]) -> u32
-    ensures { λ r. ⌜ (r ≡ flattened (now (chart .entry)) (now (table .entry)) .0) × (now (table .exit) ≡ flattened (now (chart .entry)) (now (table .entry)) .1) ⌝ }
-{
-    let class = chart_check(chart);
-    if class != 0 {
-        return class;
-    }
-    if table.len() != SLOT_BYTES {
-        return 5;
-    }
-    fill_table(chart, table);
-    0
-}
-
-// How many states a chart has.
-pub fn chart_states(chart: &[u8]) -> usize
-    ensures { λ r. ⌜ r ≡ states (now (chart .entry)) ⌝ }
-{
-    state_count(chart)
-}
+use read::MOST_STATES;
+use read::is_among;
+use table::row_number;
 
 // Where the row for state s and signal g begins.
 pub fn row_place(s: u8, g: u8) -> usize

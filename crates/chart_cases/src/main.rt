@@ -68,9 +68,9 @@ fn write_named(name: &[u8], number: u64) {
 
 fn run_chart(chart: &[u8], rows: bool) {
     let mut slot = [FILL; SLOT_BYTES];
-    let class = chart::chart_flatten(chart, &mut slot);
+    let class = flattener::chart_flatten(chart, &mut slot);
     write_named(b"class ", class as u64);
-    if chart::chart_check(chart) != class {
+    if flattener::chart_check(chart) != class {
         text::write(text::with_bytes(text::empty(), b"check differs"));
     }
     if rows && class == 0 {
@@ -100,7 +100,7 @@ fn run_rest() {
 
 // Writes what the flattener answers for a slot that has another length, and the slot's sum.
 fn try_slot(chart: &[u8], slot: &mut [u8]) {
-    let answer = chart::chart_flatten(chart, slot);
+    let answer = flattener::chart_flatten(chart, slot);
     let length = text::with_number(
         text::with_bytes(text::empty(), b"length "),
         slot.len() as u64,

@@ -15,6 +15,7 @@ use super::Answered;
 use super::Kernel;
 use super::is_open;
 use super::refuse;
+use chart::read::state_count;
 use ground::wide;
 use layout::fill_slot;
 use layout::start_row;
@@ -22,8 +23,8 @@ use mail::of_object;
 use numbers::OBJECTS;
 use numbers::SLOTS;
 use numbers::TABLE_AREA;
-use reply::refusals::load_refusal;
-use reply::refusals::start_refusal;
+use refusals::load_refusal;
+use refusals::start_refusal;
 
 const LOADED: u8 = 1;
 
@@ -83,7 +84,7 @@ pub fn load(k: Kernel, spoilt: bool, q: usize, chart: &[u8], tables: &mut [u8]) 
     }
     Answered {
         kernel: with_chart(k, q),
-        reply: reply::done(chart::chart_states(chart) as u8, 0),
+        reply: reply::done(state_count(chart) as u8, 0),
     }
 }
 

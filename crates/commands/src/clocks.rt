@@ -14,8 +14,8 @@ use ground::one;
 use mail::of_object;
 use numbers::TIMERS;
 use numbers::answer::FORM;
-use reply::refusals::arm_refusal;
-use reply::refusals::disarm_refusal;
+use refusals::arm_refusal;
+use refusals::disarm_refusal;
 
 // The ticks that are left of timer t; 0 where there is no such timer.
 fn counter_of(counters: &[u16; TIMERS], t: usize) -> u16

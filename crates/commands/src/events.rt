@@ -23,9 +23,9 @@ use numbers::answer::FULL;
 use numbers::answer::HOLDS;
 use numbers::answer::INUSE;
 use pool::Pool;
-use reply::refusals::handle_refusal;
-use reply::refusals::post_front_refusal;
-use reply::refusals::post_refusal;
+use refusals::handle_refusal;
+use refusals::post_front_refusal;
+use refusals::post_refusal;
 
 const MOST_HOLDS: u8 = 15;
 

@@ -21,8 +21,8 @@ use layout::put_payload;
 use numbers::PAYLOAD_AREA;
 use pool::Found;
 use pool::Pool;
-use reply::refusals::new_refusal;
-use reply::refusals::read_refusal;
+use refusals::new_refusal;
+use refusals::read_refusal;
 
 // The event in block b, which the pool has handed out: its signal, its size, no holds.
 fn new_event(k: Kernel, pool: Pool, b: usize, g: u8, size: u8) -> Kernel

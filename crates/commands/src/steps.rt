@@ -28,10 +28,10 @@ use numbers::MOST_STEPS;
 use numbers::ROW_BYTES;
 use numbers::TABLE_AREA;
 use numbers::answer::TABLE;
-use reply::first;
-use reply::refusals::drain_refusal;
-use reply::refusals::end_refusal;
-use reply::refusals::next_refusal;
+use refusals::drain_refusal;
+use refusals::end_refusal;
+use refusals::first;
+use refusals::next_refusal;
 
 // DRAIN's second value: nothing is queued, or it stopped below its budget.
 const ALL_DONE: u8 = 1;

@@ -13,7 +13,7 @@ use ground::one;
 use mail::of_object;
 use numbers::SIGNAL_PLACES;
 use publish::subscribes;
-use reply::refusals::subscribe_refusal;
+use refusals::subscribe_refusal;
 
 // Each object has a place for each number below 32.
 const SUBSCRIBED: u8 = 1;

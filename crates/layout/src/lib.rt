@@ -67,7 +67,7 @@ pub fn fill_slot(q: usize, chart: &[u8], tables: &mut [u8]) -> u32
     ensures { λ r. ⌜ ((r ≡ 0 → ⊥) → now (tables .exit) ≡ now (tables .entry)) ⌝ }
 {
     let at = SLOT_BYTES * q;
-    chart::chart_flatten(chart, &mut tables[at..at + SLOT_BYTES])
+    flattener::chart_flatten(chart, &mut tables[at..at + SLOT_BYTES])
 }
 
 // The row at a place of the tables, as much of it as there is.

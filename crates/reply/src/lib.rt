@@ -1,13 +1,10 @@
-// The 24 bytes of every reply, and the tests that refuse.
-pub mod refusals;
-
+// The 24 bytes of every reply.
 ghost use mathlib.Core.Bool.{cond};
 ghost use mathlib.Core.Path.{_≡_};
 ghost use Prim.Native.Nat.{_≤_, _<_};
 ghost use lib.Dec.{ltb};
 ghost use lib.ListN.{length, getD};
 ghost use Rattle.chart.specs.Numbers.{rowSize};
-ghost use Rattle.machine.specs.Numbers as ranges;
 ghost use Rattle.machine.specs.Reply.{no, badChart, replyOf};
 ghost use Rattle.machine.specs.Reply as said;
 use ground::fill;
@@ -30,23 +27,6 @@ const FIRST_VALUE: usize = 4;
 const SECOND_VALUE: usize = 5;
 
 const ACTIONS: usize = 6;
-
-// Of tests in a row, the number of the first that holds.
-pub fn first(n: u8, test: bool, rest: u8) -> u8
-    ensures { λ r. ⌜ r ≡ cond test n rest ⌝ }
-{
-    if test { n } else { rest }
-}
-
-// Whether n is not one of low to high.
-pub fn outside(low: usize, high: usize, n: usize) -> bool
-    ensures { λ r. ⌜ r ≡ ranges.outside low high n ⌝ }
-{
-    if n < low {
-        return true;
-    }
-    high < n
-}
 
 // A refusal by its number.
 pub fn refused(n: u8) -> [u8; REPLY_BYTES]

@@ -51,7 +51,7 @@ with-chart-requires c κs = allowed (c .before .before .before .before .before .
 cast-done : tie.Need-cast-done
 cast-done c =
     let class = c .before .before .before .before .before .fill-slot .ensures .0 in
-    omega (arith, c .chart-states .ensures, few-states (entry (c .before .before .before .before .before .before .before .before) .args .chart .now) (sym class ∙ c .before .before .if2 .left))
+    omega (arith, c .state-count .ensures, few-states (entry (c .before .before .before .before .before .before .before .before) .args .chart .now) (sym class ∙ c .before .before .if2 .left))
 
 returns-3 : tie.Need-returns-3
 unfolding load answered
@@ -60,7 +60,7 @@ returns-3 c = λ p l.
     let f = c .before .before .before .before .before .before .fill-slot .ensures in
     let good = c .before .before .before .if2 .left in
     writing _ _ _ _ (areas p (entry d .args .tables .now) l) _ (tests-are d) (areas p _ l) (c .before .before .before .before .before .before .before .before .if1 .left)
-    (rw (fault-none _ _ _ _ (sym (f .0) ∙ good), c .before .before .with-chart .ensures, c .done .ensures, c .before .chart-states .ensures, f .1 .0 good) refl)
+    (rw (fault-none _ _ _ _ (sym (f .0) ∙ good), c .before .before .with-chart .ensures, c .done .ensures, c .before .state-count .ensures, f .1 .0 good) refl)
 
 pub load-spec : {M : Type 1} → statement M
 load-spec =

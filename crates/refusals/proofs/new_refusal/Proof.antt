@@ -1,0 +1,11 @@
+use borrow.Author.Needs.{needs}
+use Rattle.machine.specs.Reply.{lowest}
+use Rattle.refusals.proofs.new_refusal.Statement.{statement}
+use Rattle.refusals.proofs.new_refusal.Tie as tie
+
+returns : tie.Need-returns
+unfolding lowest
+returns c = cc
+
+pub new-refusal-spec : {M : Type 1} → statement M
+new-refusal-spec = tie.close (tie.spec (λ c κs. search needs) (λ c κs. search needs) (λ c κs. search needs) (λ c κs. search needs) (λ c κs. search needs) (λ c κs. search needs) (λ c κs. search needs) returns)

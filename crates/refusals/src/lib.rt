@@ -1,0 +1,326 @@
+// The tests of each command in ascending number: the lowest number that applies, 0 where none does. `spoilt`: an unused byte is not 0.
+ghost use mathlib.Core.Bool.{cond, not};
+ghost use mathlib.Core.List.{[], _∷_};
+ghost use mathlib.Core.Path.{_≡_};
+ghost use lib.Dec.{eqb, leb};
+ghost use Rattle.machine.specs.Numbers as ranges;
+ghost use Rattle.machine.specs.Numbers.{noBlock, noDepth, noMargin, noObject, noSignal, noSize, noSlot, noTimer};
+ghost use Rattle.machine.specs.Reply as said;
+ghost use Rattle.machine.specs.Reply.{lowest};
+use numbers::BLOCKS;
+use numbers::FIRST_SIGNAL;
+use numbers::LARGE_BYTES;
+use numbers::LAST_SIGNAL;
+use numbers::OBJECTS;
+use numbers::PLACES;
+use numbers::SLOTS;
+use numbers::TIMERS;
+use numbers::answer::ABSENT;
+use numbers::answer::AREA;
+use numbers::answer::BUSY;
+use numbers::answer::DRY;
+use numbers::answer::FORM;
+use numbers::answer::FULL;
+use numbers::answer::IDLE;
+use numbers::answer::NOSTEP;
+use numbers::answer::RANGE;
+use numbers::answer::STALE;
+use numbers::answer::TABLE;
+use numbers::answer::TAKEN;
+
+const LAST_TIMER: usize = TIMERS - 1;
+
+const LAST_SLOT: usize = SLOTS - 1;
+
+const LAST_BLOCK: usize = BLOCKS - 1;
+
+const WIDEST: usize = PLACES - 1;
+
+// Of tests in a row, the number of the first that holds.
+pub fn first(n: u8, test: bool, rest: u8) -> u8
+    ensures { λ r. ⌜ r ≡ cond test n rest ⌝ }
+{
+    if test { n } else { rest }
+}
+
+// Whether n is not one of low to high.
+fn outside(low: usize, high: usize, n: usize) -> bool
+    ensures { λ r. ⌜ r ≡ ranges.outside low high n ⌝ }
+{
+    if n < low {
+        return true;
+    }
+    high < n
+}
+
+// LOAD.
+pub fn load_refusal(spoilt: bool, bad: bool, q: usize, busy: bool, used: bool) -> u8
+    ensures { λ r. ⌜ r ≡ lowest ((said.FORM, spoilt) ∷ (said.AREA, bad) ∷ (said.RANGE, noSlot q) ∷ (said.BUSY, busy) ∷ (said.TAKEN, used) ∷ []) ⌝ }
+{
+    first(
+        FORM,
+        spoilt,
+        first(
+            AREA,
+            bad,
+            first(
+                RANGE,
+                outside(0, LAST_SLOT, q),
+                first(BUSY, busy, first(TAKEN, used, 0)),
+            ),
+        ),
+    )
+}
+
+// START.
+pub fn start_refusal(
+    spoilt: bool,
+    bad: bool,
+    p: usize,
+    q: usize,
+    depth: usize,
+    busy: bool,
+    loaded: bool,
+    started: bool,
+    sound: bool,
+) -> u8
+    ensures { λ r. ⌜ r ≡ lowest ((said.FORM, spoilt) ∷ (said.AREA, bad) ∷ (said.RANGE, noObject p) ∷ (said.RANGE, noSlot q) ∷ (said.RANGE, noDepth depth) ∷ (said.BUSY, busy) ∷ (said.ABSENT, not loaded) ∷ (said.TAKEN, started) ∷ (said.TABLE, not sound) ∷ []) ⌝ }
+{
+    first(
+        FORM,
+        spoilt,
+        first(
+            AREA,
+            bad,
+            first(
+                RANGE,
+                outside(1, OBJECTS, p),
+                first(
+                    RANGE,
+                    outside(0, LAST_SLOT, q),
+                    first(
+                        RANGE,
+                        outside(1, PLACES, depth),
+                        first(
+                            BUSY,
+                            busy,
+                            first(
+                                ABSENT,
+                                !loaded,
+                                first(TAKEN, started, first(TABLE, !sound, 0)),
+                            ),
+                        ),
+                    ),
+                ),
+            ),
+        ),
+    )
+}
+
+// NEW.
+pub fn new_refusal(spoilt: bool, bad: bool, g: usize, size: usize, none: bool) -> u8
+    ensures { λ r. ⌜ r ≡ lowest ((said.FORM, spoilt) ∷ (said.AREA, bad) ∷ (said.RANGE, noSignal g) ∷ (said.RANGE, noSize size) ∷ (said.DRY, none) ∷ []) ⌝ }
+{
+    first(
+        FORM,
+        spoilt,
+        first(
+            AREA,
+            bad,
+            first(
+                RANGE,
+                outside(FIRST_SIGNAL, LAST_SIGNAL, g),
+                first(RANGE, outside(0, LARGE_BYTES, size), first(DRY, none, 0)),
+            ),
+        ),
+    )
+}
+
+// POST.
+pub fn post_refusal(
+    spoilt: bool,
+    b: usize,
+    p: usize,
+    margin: usize,
+    stale: bool,
+    started: bool,
+    room: usize,
+) -> u8
+    ensures { λ r. ⌜ r ≡ lowest ((said.FORM, spoilt) ∷ (said.RANGE, noBlock b) ∷ (said.RANGE, noObject p) ∷ (said.RANGE, noMargin margin) ∷ (said.STALE, stale) ∷ (said.ABSENT, not started) ∷ (said.FULL, leb room margin) ∷ []) ⌝ }
+{
+    first(
+        FORM,
+        spoilt,
+        first(
+            RANGE,
+            outside(0, LAST_BLOCK, b),
+            first(
+                RANGE,
+                outside(1, OBJECTS, p),
+                first(
+                    RANGE,
+                    outside(0, WIDEST, margin),
+                    first(
+                        STALE,
+                        stale,
+                        first(ABSENT, !started, first(FULL, room <= margin, 0)),
+                    ),
+                ),
+            ),
+        ),
+    )
+}
+
+// POSTFRONT.
+pub fn post_front_refusal(
+    spoilt: bool,
+    b: usize,
+    p: usize,
+    stale: bool,
+    started: bool,
+    room: usize,
+) -> u8
+    ensures { λ r. ⌜ r ≡ lowest ((said.FORM, spoilt) ∷ (said.RANGE, noBlock b) ∷ (said.RANGE, noObject p) ∷ (said.STALE, stale) ∷ (said.ABSENT, not started) ∷ (said.FULL, leb room 0) ∷ []) ⌝ }
+{
+    first(
+        FORM,
+        spoilt,
+        first(
+            RANGE,
+            outside(0, LAST_BLOCK, b),
+            first(
+                RANGE,
+                outside(1, OBJECTS, p),
+                first(
+                    STALE,
+                    stale,
+                    first(ABSENT, !started, first(FULL, room <= 0, 0)),
+                ),
+            ),
+        ),
+    )
+}
+
+// PUBLISH, HOLD, RELEASE and DROP, which differ in their last test.
+pub fn handle_refusal(spoilt: bool, b: usize, stale: bool, n: u8, test: bool) -> u8
+    ensures { λ r. ⌜ r ≡ lowest ((said.FORM, spoilt) ∷ (said.RANGE, noBlock b) ∷ (said.STALE, stale) ∷ (n, test) ∷ []) ⌝ }
+{
+    first(
+        FORM,
+        spoilt,
+        first(
+            RANGE,
+            outside(0, LAST_BLOCK, b),
+            first(STALE, stale, first(n, test, 0)),
+        ),
+    )
+}
+
+// SUBSCRIBE and UNSUBSCRIBE.
+pub fn subscribe_refusal(spoilt: bool, p: usize, g: usize, started: bool) -> u8
+    ensures { λ r. ⌜ r ≡ lowest ((said.FORM, spoilt) ∷ (said.RANGE, noObject p) ∷ (said.RANGE, noSignal g) ∷ (said.ABSENT, not started) ∷ []) ⌝ }
+{
+    first(
+        FORM,
+        spoilt,
+        first(
+            RANGE,
+            outside(1, OBJECTS, p),
+            first(
+                RANGE,
+                outside(FIRST_SIGNAL, LAST_SIGNAL, g),
+                first(ABSENT, !started, 0),
+            ),
+        ),
+    )
+}
+
+// READ.
+pub fn read_refusal(spoilt: bool, bad: bool, b: usize, stale: bool) -> u8
+    ensures { λ r. ⌜ r ≡ lowest ((said.FORM, spoilt) ∷ (said.AREA, bad) ∷ (said.RANGE, noBlock b) ∷ (said.STALE, stale) ∷ []) ⌝ }
+{
+    first(
+        FORM,
+        spoilt,
+        first(
+            AREA,
+            bad,
+            first(RANGE, outside(0, LAST_BLOCK, b), first(STALE, stale, 0)),
+        ),
+    )
+}
+
+// NEXT.
+pub fn next_refusal(spoilt: bool, bad: bool, busy: bool, p: usize, sound: bool) -> u8
+    ensures { λ r. ⌜ r ≡ lowest ((said.FORM, spoilt) ∷ (said.AREA, bad) ∷ (said.BUSY, busy) ∷ (said.IDLE, eqb p 0) ∷ (said.TABLE, not sound) ∷ []) ⌝ }
+{
+    first(
+        FORM,
+        spoilt,
+        first(
+            AREA,
+            bad,
+            first(BUSY, busy, first(IDLE, p == 0, first(TABLE, !sound, 0))),
+        ),
+    )
+}
+
+// END.
+pub fn end_refusal(spoilt: bool, busy: bool) -> u8
+    ensures { λ r. ⌜ r ≡ lowest ((said.FORM, spoilt) ∷ (said.NOSTEP, not busy) ∷ []) ⌝ }
+{
+    first(FORM, spoilt, first(NOSTEP, !busy, 0))
+}
+
+// ARM.
+pub fn arm_refusal(
+    spoilt: bool,
+    t: usize,
+    p: usize,
+    g: usize,
+    ticks: usize,
+    started: bool,
+    armed: bool,
+) -> u8
+    ensures { λ r. ⌜ r ≡ lowest ((said.FORM, spoilt) ∷ (said.RANGE, noTimer t) ∷ (said.RANGE, noObject p) ∷ (said.RANGE, noSignal g) ∷ (said.RANGE, eqb ticks 0) ∷ (said.ABSENT, not started) ∷ (said.TAKEN, armed) ∷ []) ⌝ }
+{
+    first(
+        FORM,
+        spoilt,
+        first(
+            RANGE,
+            outside(0, LAST_TIMER, t),
+            first(
+                RANGE,
+                outside(1, OBJECTS, p),
+                first(
+                    RANGE,
+                    outside(FIRST_SIGNAL, LAST_SIGNAL, g),
+                    first(
+                        RANGE,
+                        ticks == 0,
+                        first(ABSENT, !started, first(TAKEN, armed, 0)),
+                    ),
+                ),
+            ),
+        ),
+    )
+}
+
+// DISARM.
+pub fn disarm_refusal(spoilt: bool, t: usize) -> u8
+    ensures { λ r. ⌜ r ≡ lowest ((said.FORM, spoilt) ∷ (said.RANGE, noTimer t) ∷ []) ⌝ }
+{
+    first(FORM, spoilt, first(RANGE, outside(0, LAST_TIMER, t), 0))
+}
+
+// DRAIN.
+pub fn drain_refusal(spoilt: bool, tables: bool, log: bool, busy: bool) -> u8
+    ensures { λ r. ⌜ r ≡ lowest ((said.FORM, spoilt) ∷ (said.AREA, tables) ∷ (said.AREA, log) ∷ (said.BUSY, busy) ∷ []) ⌝ }
+{
+    first(
+        FORM,
+        spoilt,
+        first(AREA, tables, first(AREA, log, first(BUSY, busy, 0))),
+    )
+}
