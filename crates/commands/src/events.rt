@@ -4,9 +4,9 @@ ghost use mathlib.Core.Path.{_≡_};
 ghost use Prim.Native.Nat.{ℕ, _-_, _<_, _≤_};
 ghost use lib.ListN.{getD, set};
 ghost use Rattle.machine.specs.Events as machine;
-ghost use Rattle.machine.specs.Events.{fullReceiver, posted, postedFront, publishDone, published};
+ghost use Rattle.machine.specs.Events.{fullReceiver, postTests, posted, postedFront, publishDone, published};
 ghost use Rattle.machine.specs.Numbers.{blocks, objects};
-ghost use Rattle.machine.specs.Reply.{Areas};
+ghost use Rattle.machine.specs.Reply.{Areas, lowest};
 ghost use Rattle.machine.specs.State.{withCells, withHolds};
 ghost use Rattle.mail.specs.Box.{room};
 ghost use Rattle.pool.specs.View.{cells};
@@ -24,7 +24,6 @@ use numbers::answer::HOLDS;
 use numbers::answer::INUSE;
 use pool::Pool;
 use refusals::handle_refusal;
-use refusals::post_front_refusal;
 use refusals::post_refusal;
 
 const MOST_HOLDS: u8 = 15;
@@ -46,31 +45,31 @@ fn post_back(k: Kernel, b: usize, p: usize) -> Kernel
     next
 }
 
+// The tests of POST; those of POSTFRONT are the same with margin 0.
+fn post_no(k: Kernel, spoilt: bool, b: usize, generation: u8, p: usize, margin: usize) -> u8
+    ensures { λ r. ⌜ r ≡ lowest (postTests spoilt b generation p margin (stateOf k)) ⌝ }
+{
+    let depths = k.depths;
+    let counts = k.counts;
+    let depth = of_object(&depths, p);
+    let free = room_of(depth, of_object(&counts, p));
+    let stale = pool::stale(k.pool, b, generation);
+    post_refusal(spoilt, b, p, margin, stale, depth != 0, free)
+}
+
 // POST handle, p, margin.
 pub fn post(k: Kernel, spoilt: bool, b: usize, generation: u8, p: usize, margin: usize) -> Answered
     requires { ⌜ Good k ⌝ }
     ensures { λ r. ⌜ ((z : Areas) → answered r z ≡ machine.post spoilt b generation p margin (stateOf k) z) ⌝ }
 {
-    let depths = k.depths;
-    let counts = k.counts;
-    let depth = of_object(&depths, p);
-    let queued = of_object(&counts, p);
-    let stale = pool::stale(k.pool, b, generation);
-    let no = post_refusal(
-        spoilt,
-        b,
-        p,
-        margin,
-        stale,
-        depth != 0,
-        room_of(depth, queued),
-    );
+    let no = post_no(k, spoilt, b, generation, p, margin);
     if no != 0 {
         return refuse(k, no);
     }
+    let counts = k.counts;
     Answered {
         kernel: post_back(k, b, p),
-        reply: reply::done((queued + 1) as u8, 0),
+        reply: reply::done(counts[p - 1] + 1, 0),
     }
 }
 
@@ -97,18 +96,14 @@ pub fn post_front(k: Kernel, spoilt: bool, b: usize, generation: u8, p: usize) -
     requires { ⌜ Good k ⌝ }
     ensures { λ r. ⌜ ((z : Areas) → answered r z ≡ machine.postFront spoilt b generation p (stateOf k) z) ⌝ }
 {
-    let depths = k.depths;
-    let counts = k.counts;
-    let depth = of_object(&depths, p);
-    let queued = of_object(&counts, p);
-    let stale = pool::stale(k.pool, b, generation);
-    let no = post_front_refusal(spoilt, b, p, stale, depth != 0, room_of(depth, queued));
+    let no = post_no(k, spoilt, b, generation, p, 0);
     if no != 0 {
         return refuse(k, no);
     }
+    let counts = k.counts;
     Answered {
         kernel: post_ahead(k, b, p),
-        reply: reply::done((queued + 1) as u8, 0),
+        reply: reply::done(counts[p - 1] + 1, 0),
     }
 }
 

@@ -22,7 +22,6 @@ use numbers::OBJECTS;
 use numbers::SIGNAL_PLACES;
 use pool::Pool;
 
-// What the subscriptions keep of one object: a place for each signal.
 // Whether object p subscribes to signal g.
 pub fn subscribes(wants: &[u8; ALL_SIGNAL_PLACES], p: usize, g: usize) -> bool
     requires { ⌜ (1 ≤ p) × (p ≤ objects) × (g < 256) ⌝ }

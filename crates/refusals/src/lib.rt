@@ -1,4 +1,5 @@
-// The tests of each command in ascending number: the lowest number that applies, 0 where none does. `spoilt`: an unused byte is not 0.
+// The tests of each command: the lowest number that applies, 0 where none does. They stand in descending number, so that the last word
+// has the lowest that holds. `spoilt`: an unused byte is not 0.
 ghost use mathlib.Core.Bool.{cond, not};
 ghost use mathlib.Core.List.{[], _∷_};
 ghost use mathlib.Core.Path.{_≡_};
@@ -57,19 +58,11 @@ fn outside(low: usize, high: usize, n: usize) -> bool
 pub fn load_refusal(spoilt: bool, bad: bool, q: usize, busy: bool, used: bool) -> u8
     ensures { λ r. ⌜ r ≡ lowest ((said.FORM, spoilt) ∷ (said.AREA, bad) ∷ (said.RANGE, noSlot q) ∷ (said.BUSY, busy) ∷ (said.TAKEN, used) ∷ []) ⌝ }
 {
-    first(
-        FORM,
-        spoilt,
-        first(
-            AREA,
-            bad,
-            first(
-                RANGE,
-                outside(0, LAST_SLOT, q),
-                first(BUSY, busy, first(TAKEN, used, 0)),
-            ),
-        ),
-    )
+    let n = first(TAKEN, used, 0);
+    let n = first(BUSY, busy, n);
+    let n = first(RANGE, outside(0, LAST_SLOT, q), n);
+    let n = first(AREA, bad, n);
+    first(FORM, spoilt, n)
 }
 
 // START.
@@ -86,57 +79,29 @@ pub fn start_refusal(
 ) -> u8
     ensures { λ r. ⌜ r ≡ lowest ((said.FORM, spoilt) ∷ (said.AREA, bad) ∷ (said.RANGE, noObject p) ∷ (said.RANGE, noSlot q) ∷ (said.RANGE, noDepth depth) ∷ (said.BUSY, busy) ∷ (said.ABSENT, not loaded) ∷ (said.TAKEN, started) ∷ (said.TABLE, not sound) ∷ []) ⌝ }
 {
-    first(
-        FORM,
-        spoilt,
-        first(
-            AREA,
-            bad,
-            first(
-                RANGE,
-                outside(1, OBJECTS, p),
-                first(
-                    RANGE,
-                    outside(0, LAST_SLOT, q),
-                    first(
-                        RANGE,
-                        outside(1, PLACES, depth),
-                        first(
-                            BUSY,
-                            busy,
-                            first(
-                                ABSENT,
-                                !loaded,
-                                first(TAKEN, started, first(TABLE, !sound, 0)),
-                            ),
-                        ),
-                    ),
-                ),
-            ),
-        ),
-    )
+    let n = first(TABLE, !sound, 0);
+    let n = first(TAKEN, started, n);
+    let n = first(ABSENT, !loaded, n);
+    let n = first(BUSY, busy, n);
+    let n = first(RANGE, outside(1, PLACES, depth), n);
+    let n = first(RANGE, outside(0, LAST_SLOT, q), n);
+    let n = first(RANGE, outside(1, OBJECTS, p), n);
+    let n = first(AREA, bad, n);
+    first(FORM, spoilt, n)
 }
 
 // NEW.
 pub fn new_refusal(spoilt: bool, bad: bool, g: usize, size: usize, none: bool) -> u8
     ensures { λ r. ⌜ r ≡ lowest ((said.FORM, spoilt) ∷ (said.AREA, bad) ∷ (said.RANGE, noSignal g) ∷ (said.RANGE, noSize size) ∷ (said.DRY, none) ∷ []) ⌝ }
 {
-    first(
-        FORM,
-        spoilt,
-        first(
-            AREA,
-            bad,
-            first(
-                RANGE,
-                outside(FIRST_SIGNAL, LAST_SIGNAL, g),
-                first(RANGE, outside(0, LARGE_BYTES, size), first(DRY, none, 0)),
-            ),
-        ),
-    )
+    let n = first(DRY, none, 0);
+    let n = first(RANGE, outside(0, LARGE_BYTES, size), n);
+    let n = first(RANGE, outside(FIRST_SIGNAL, LAST_SIGNAL, g), n);
+    let n = first(AREA, bad, n);
+    first(FORM, spoilt, n)
 }
 
-// POST.
+// POST, and with margin 0 POSTFRONT.
 pub fn post_refusal(
     spoilt: bool,
     b: usize,
@@ -148,128 +113,62 @@ pub fn post_refusal(
 ) -> u8
     ensures { λ r. ⌜ r ≡ lowest ((said.FORM, spoilt) ∷ (said.RANGE, noBlock b) ∷ (said.RANGE, noObject p) ∷ (said.RANGE, noMargin margin) ∷ (said.STALE, stale) ∷ (said.ABSENT, not started) ∷ (said.FULL, leb room margin) ∷ []) ⌝ }
 {
-    first(
-        FORM,
-        spoilt,
-        first(
-            RANGE,
-            outside(0, LAST_BLOCK, b),
-            first(
-                RANGE,
-                outside(1, OBJECTS, p),
-                first(
-                    RANGE,
-                    outside(0, WIDEST, margin),
-                    first(
-                        STALE,
-                        stale,
-                        first(ABSENT, !started, first(FULL, room <= margin, 0)),
-                    ),
-                ),
-            ),
-        ),
-    )
-}
-
-// POSTFRONT.
-pub fn post_front_refusal(
-    spoilt: bool,
-    b: usize,
-    p: usize,
-    stale: bool,
-    started: bool,
-    room: usize,
-) -> u8
-    ensures { λ r. ⌜ r ≡ lowest ((said.FORM, spoilt) ∷ (said.RANGE, noBlock b) ∷ (said.RANGE, noObject p) ∷ (said.STALE, stale) ∷ (said.ABSENT, not started) ∷ (said.FULL, leb room 0) ∷ []) ⌝ }
-{
-    first(
-        FORM,
-        spoilt,
-        first(
-            RANGE,
-            outside(0, LAST_BLOCK, b),
-            first(
-                RANGE,
-                outside(1, OBJECTS, p),
-                first(
-                    STALE,
-                    stale,
-                    first(ABSENT, !started, first(FULL, room <= 0, 0)),
-                ),
-            ),
-        ),
-    )
+    let n = first(FULL, room <= margin, 0);
+    let n = first(ABSENT, !started, n);
+    let n = first(STALE, stale, n);
+    let n = first(RANGE, outside(0, WIDEST, margin), n);
+    let n = first(RANGE, outside(1, OBJECTS, p), n);
+    let n = first(RANGE, outside(0, LAST_BLOCK, b), n);
+    first(FORM, spoilt, n)
 }
 
 // PUBLISH, HOLD, RELEASE and DROP, which differ in their last test.
 pub fn handle_refusal(spoilt: bool, b: usize, stale: bool, n: u8, test: bool) -> u8
     ensures { λ r. ⌜ r ≡ lowest ((said.FORM, spoilt) ∷ (said.RANGE, noBlock b) ∷ (said.STALE, stale) ∷ (n, test) ∷ []) ⌝ }
 {
-    first(
-        FORM,
-        spoilt,
-        first(
-            RANGE,
-            outside(0, LAST_BLOCK, b),
-            first(STALE, stale, first(n, test, 0)),
-        ),
-    )
+    let n = first(n, test, 0);
+    let n = first(STALE, stale, n);
+    let n = first(RANGE, outside(0, LAST_BLOCK, b), n);
+    first(FORM, spoilt, n)
 }
 
 // SUBSCRIBE and UNSUBSCRIBE.
 pub fn subscribe_refusal(spoilt: bool, p: usize, g: usize, started: bool) -> u8
     ensures { λ r. ⌜ r ≡ lowest ((said.FORM, spoilt) ∷ (said.RANGE, noObject p) ∷ (said.RANGE, noSignal g) ∷ (said.ABSENT, not started) ∷ []) ⌝ }
 {
-    first(
-        FORM,
-        spoilt,
-        first(
-            RANGE,
-            outside(1, OBJECTS, p),
-            first(
-                RANGE,
-                outside(FIRST_SIGNAL, LAST_SIGNAL, g),
-                first(ABSENT, !started, 0),
-            ),
-        ),
-    )
+    let n = first(ABSENT, !started, 0);
+    let n = first(RANGE, outside(FIRST_SIGNAL, LAST_SIGNAL, g), n);
+    let n = first(RANGE, outside(1, OBJECTS, p), n);
+    first(FORM, spoilt, n)
 }
 
 // READ.
 pub fn read_refusal(spoilt: bool, bad: bool, b: usize, stale: bool) -> u8
     ensures { λ r. ⌜ r ≡ lowest ((said.FORM, spoilt) ∷ (said.AREA, bad) ∷ (said.RANGE, noBlock b) ∷ (said.STALE, stale) ∷ []) ⌝ }
 {
-    first(
-        FORM,
-        spoilt,
-        first(
-            AREA,
-            bad,
-            first(RANGE, outside(0, LAST_BLOCK, b), first(STALE, stale, 0)),
-        ),
-    )
+    let n = first(STALE, stale, 0);
+    let n = first(RANGE, outside(0, LAST_BLOCK, b), n);
+    let n = first(AREA, bad, n);
+    first(FORM, spoilt, n)
 }
 
 // NEXT.
 pub fn next_refusal(spoilt: bool, bad: bool, busy: bool, p: usize, sound: bool) -> u8
     ensures { λ r. ⌜ r ≡ lowest ((said.FORM, spoilt) ∷ (said.AREA, bad) ∷ (said.BUSY, busy) ∷ (said.IDLE, eqb p 0) ∷ (said.TABLE, not sound) ∷ []) ⌝ }
 {
-    first(
-        FORM,
-        spoilt,
-        first(
-            AREA,
-            bad,
-            first(BUSY, busy, first(IDLE, p == 0, first(TABLE, !sound, 0))),
-        ),
-    )
+    let n = first(TABLE, !sound, 0);
+    let n = first(IDLE, p == 0, n);
+    let n = first(BUSY, busy, n);
+    let n = first(AREA, bad, n);
+    first(FORM, spoilt, n)
 }
 
 // END.
 pub fn end_refusal(spoilt: bool, busy: bool) -> u8
     ensures { λ r. ⌜ r ≡ lowest ((said.FORM, spoilt) ∷ (said.NOSTEP, not busy) ∷ []) ⌝ }
 {
-    first(FORM, spoilt, first(NOSTEP, !busy, 0))
+    let n = first(NOSTEP, !busy, 0);
+    first(FORM, spoilt, n)
 }
 
 // ARM.
@@ -284,43 +183,29 @@ pub fn arm_refusal(
 ) -> u8
     ensures { λ r. ⌜ r ≡ lowest ((said.FORM, spoilt) ∷ (said.RANGE, noTimer t) ∷ (said.RANGE, noObject p) ∷ (said.RANGE, noSignal g) ∷ (said.RANGE, eqb ticks 0) ∷ (said.ABSENT, not started) ∷ (said.TAKEN, armed) ∷ []) ⌝ }
 {
-    first(
-        FORM,
-        spoilt,
-        first(
-            RANGE,
-            outside(0, LAST_TIMER, t),
-            first(
-                RANGE,
-                outside(1, OBJECTS, p),
-                first(
-                    RANGE,
-                    outside(FIRST_SIGNAL, LAST_SIGNAL, g),
-                    first(
-                        RANGE,
-                        ticks == 0,
-                        first(ABSENT, !started, first(TAKEN, armed, 0)),
-                    ),
-                ),
-            ),
-        ),
-    )
+    let n = first(TAKEN, armed, 0);
+    let n = first(ABSENT, !started, n);
+    let n = first(RANGE, ticks == 0, n);
+    let n = first(RANGE, outside(FIRST_SIGNAL, LAST_SIGNAL, g), n);
+    let n = first(RANGE, outside(1, OBJECTS, p), n);
+    let n = first(RANGE, outside(0, LAST_TIMER, t), n);
+    first(FORM, spoilt, n)
 }
 
 // DISARM.
 pub fn disarm_refusal(spoilt: bool, t: usize) -> u8
     ensures { λ r. ⌜ r ≡ lowest ((said.FORM, spoilt) ∷ (said.RANGE, noTimer t) ∷ []) ⌝ }
 {
-    first(FORM, spoilt, first(RANGE, outside(0, LAST_TIMER, t), 0))
+    let n = first(RANGE, outside(0, LAST_TIMER, t), 0);
+    first(FORM, spoilt, n)
 }
 
 // DRAIN.
 pub fn drain_refusal(spoilt: bool, tables: bool, log: bool, busy: bool) -> u8
     ensures { λ r. ⌜ r ≡ lowest ((said.FORM, spoilt) ∷ (said.AREA, tables) ∷ (said.AREA, log) ∷ (said.BUSY, busy) ∷ []) ⌝ }
 {
-    first(
-        FORM,
-        spoilt,
-        first(AREA, tables, first(AREA, log, first(BUSY, busy, 0))),
-    )
+    let n = first(BUSY, busy, 0);
+    let n = first(AREA, log, n);
+    let n = first(AREA, tables, n);
+    first(FORM, spoilt, n)
 }

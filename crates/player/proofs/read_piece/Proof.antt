@@ -22,9 +22,4 @@ returns c =
 pub read-piece-spec : {M : Type 1} → statement M
 read-piece-spec =
     tie.close
-    (tie.spec
-    (λ c κs. search needs)
-    array-borrow-prefix-bytes
-    slice-aggregate-read-full
-    (λ c κs. search needs)
-    returns)
+    (tie.spec (λ c κs. search needs) array-borrow-prefix-bytes slice-aggregate-read-full (λ c κs. search needs) returns)

@@ -15,14 +15,5 @@ abbrev μ-loop : tie.MeasureT-loop
 pub told-spec : {M : Type 1} → statement M
 told-spec =
     tie.close
-    (tie.spec
-    Inv-loop
-    μ-loop
-    (λ c. search needs)
-    (λ c. search needs)
-    (λ c. search needs)
-    (λ c. search needs)
-    (λ c. search needs)
-    (λ c. search needs)
-    (λ c. counts _ _ (search needs))
-    (λ c. counts _ _ (search needs)))
+    (tie.spec Inv-loop μ-loop (λ c. search needs) (λ c. search needs) (λ c. search needs) (λ c. search needs) (λ c. search needs) (λ c. search needs)
+    (λ c. counts _ _ (search needs)) (λ c. counts _ _ (search needs)))

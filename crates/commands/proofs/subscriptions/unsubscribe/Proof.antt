@@ -1,32 +1,11 @@
 use borrow.Author.Needs.{needs}
-use mathlib.Core.Path.{refl}
-use native.Mathlib.Omega.{arith}
 use Rattle.machine.specs.Events.{unsubscribe}
-use Rattle.commands.specs.View.{answered, stateOf}
-use Rattle.commands.proofs.Glue.{refusal, doing}
-use Rattle.commands.proofs.Wants.{subscribe-allowed}
 use Rattle.commands.proofs.subscriptions.unsubscribe.Statement.{statement}
 use Rattle.commands.proofs.subscriptions.unsubscribe.Tie as tie
 
 returns : tie.Need-returns
 unfolding unsubscribe
-returns c = λ z. refusal _ _ _ _ z _ (c .before .before .subscribe-no .ensures) (c .before .if1 .taken) (c .refuse .ensures)
-
-subscribes-requires : tie.Need-subscribes-requires
-subscribes-requires c κs =
-    let h = subscribe-allowed _ _ _ _ _ (c .before .before .before .subscribe-no .ensures) (c .before .before .if1 .left) in
-    (h .0, h .1, omega arith)
-
-wanting-requires : tie.Need-wanting-requires
-wanting-requires c κs = subscribe-allowed _ _ _ _ _ (c .before .before .before .before .subscribe-no .ensures) (c .before .before .before .if1 .left)
-
-returns-2 : tie.Need-returns-2
-unfolding unsubscribe answered stateOf
-returns-2 c = λ z.
-    doing _ _ _ _ z _ (c .before .before .before .before .before .before .before .subscribe-no .ensures) (c .before .before .before .before .before .before .if1 .left)
-    (rw (c .before .before .wanting .ensures, c .done .ensures, c .before .one .ensures .0, c .before .before .before .subscribes .ensures) refl)
+returns c = c .want .ensures
 
 pub unsubscribe-spec : {M : Type 1} → statement M
-unsubscribe-spec =
-    tie.close
-    (tie.spec (λ c κs. search needs) (λ c κs. search needs) returns subscribes-requires wanting-requires (λ c κs. search needs) (λ c κs. search needs) returns-2)
+unsubscribe-spec = tie.close (tie.spec (λ c κs. search needs) returns)
