@@ -1,7 +1,6 @@
 // Reading a chart: its records' bytes, its states, and which lies in which.
 ghost use mathlib.Core.Path.{_≡_};
-ghost use Prim.Native.Nat.{_+_, _*_, _<_, _≤_};
-ghost use lib.ListN.{length};
+ghost use Prim.Native.Nat.{_+_, _*_, _<_};
 ghost use Rattle.chart.specs.Chart.{among, byte, has, isSignal, outward, parent, states};
 
 // The most states and levels of a chart, and the signals as bytes.

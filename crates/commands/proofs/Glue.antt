@@ -1,8 +1,8 @@
 -- What a command answers, from what its code gave back: a refusal, or what it does.
-use mathlib.Core.Path.{_≡_, refl, sym, _∙_}
+use mathlib.Core.Path.{_≡_, refl}
 use Prim.Native.Nat.{ℕ}
 use Rattle.machine.proofs.Tests.{unless-none, unless-some}
-use Rattle.machine.specs.Reply.{Areas, Answer, answer, no, replyOf, unless}
+use Rattle.machine.specs.Reply.{Areas, Answer, no, replyOf, unless}
 use Rattle.commands.specs.View.{answered, stateOf}
 use Rattle.commands.specs.declared.Answered.{Answered}
 use Rattle.commands.specs.declared.Kernel.{Kernel}

@@ -1,6 +1,5 @@
 -- How the struct is read as the machine's state, and what a good kernel is.
 use mathlib.Core.List.{List}
-use mathlib.Core.Path.{_≡_}
 use Prim.Native.Nat.{ℕ}
 use Rattle.machine.specs.Inv.{Inv}
 use Rattle.machine.specs.Reply.{Areas, Answer}

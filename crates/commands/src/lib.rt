@@ -7,8 +7,7 @@ pub mod steps;
 pub mod subscriptions;
 
 ghost use mathlib.Core.Path.{_≡_};
-ghost use Prim.Native.Nat.{_-_, _<_, _≤_};
-ghost use lib.ListN.{getD, length};
+ghost use Prim.Native.Nat.{_-_};
 ghost use Rattle.machine.specs.Reply.{no, replyOf};
 ghost use Rattle.machine.specs.State.{freshState};
 ghost use Rattle.machine.specs.State as state;

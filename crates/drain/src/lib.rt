@@ -195,8 +195,10 @@ pub fn run(
 ) -> usize
     requires { ⌜ Sized (now places) (now heads) (now counts) (now gone) (now log) × (length (now tables) ≡ tableBytes) × (budget ≤ 255) ⌝ }
     requires { ⌜ FitRun (now gens) (now signals) (now seats) (now tables) (runAt (now places) (now heads) (now counts) (now rests) (now gone) (now log) 0) ⌝ }
-    ensures { λ r. ⌜ Sized (now (places .entry)) (now (heads .exit)) (now (counts .exit)) (now (gone .exit)) (now (log .exit)) × (runAt (now (places .entry)) (now (heads .exit)) (now (counts .exit)) (now (rests .exit)) (now (gone .exit)) (now (log .exit)) r
-        ≡ runFrom (now (gens .entry)) (now (signals .entry)) (now (seats .entry)) (now (tables .entry)) budget (runAt (now (places .entry)) (now (heads .entry)) (now (counts .entry)) (now (rests .entry)) (now (gone .entry)) (now (log .entry)) 0)) ⌝ }
+    ensures { λ r. ⌜ Sized (now (places .entry)) (now (heads .exit)) (now (counts .exit)) (now (gone .exit)) (now (log .exit))
+        × (runAt (now (places .entry)) (now (heads .exit)) (now (counts .exit)) (now (rests .exit)) (now (gone .exit)) (now (log .exit)) r
+        ≡ runFrom (now (gens .entry)) (now (signals .entry)) (now (seats .entry)) (now (tables .entry)) budget
+        (runAt (now (places .entry)) (now (heads .entry)) (now (counts .entry)) (now (rests .entry)) (now (gone .entry)) (now (log .entry)) 0)) ⌝ }
 {
     let mut n = 0;
     while n < budget {

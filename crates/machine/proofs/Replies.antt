@@ -1,13 +1,12 @@
 -- Every reply has 24 bytes and a number up to 15; a refusal leaves everything else as it was.
 use mathlib.Core.Bool.{Bool, true, false, cond, not, _&&_}
-use mathlib.Core.List.{List, [], _∷_, _++_}
+use mathlib.Core.List.{List, [], _∷_}
 use mathlib.Core.Path.{_≡_, refl}
 use Prim.Native.Nat.{ℕ, zero, suc, _≤_, _<_}
 use native.Mathlib.Omega.{arith}
 use borrow.Author.Tests.{leb-true, not-true}
 use lib.Dec.{eqb, leb}
-use lib.ListN.{length, getD, drop, replicate, length-append, length-replicate}
-use lib.Seq.{length-take-le}
+use lib.ListN.{length, getD, drop, replicate}
 use Rattle.ground.specs.Bytes.{padded}
 use Rattle.ground.specs.Padding.{length-padded}
 use Rattle.ground.specs.Bools.{and-left, and-right, cond-pick}

@@ -1,5 +1,5 @@
 -- Laws of lists of mailboxes, for the layers above.
-use mathlib.Core.Bool.{true, false, cond}
+use mathlib.Core.Bool.{true, false}
 use mathlib.Core.List.{List, [], _∷_, _++_}
 use mathlib.Core.Logic.{⊎-elim}
 use mathlib.Core.Path.{_≡_, refl, sym, ap}
@@ -8,17 +8,16 @@ use native.Mathlib.Decide.{decLt}
 use native.Mathlib.Nat.{not-suc-le-zero, le-of-suc-le-suc, eq-or-lt-of-le, mul-suc}
 use native.Mathlib.Numerals.{add-one}
 use native.Mathlib.Omega.{arith}
-use borrow.Author.Tests.{eqb-true, eqb-false, ne-eqb, lt-ltb, le-ltb, ltb-false}
-use lib.Dec.{eqb, ltb}
+use borrow.Author.Tests.{eqb-true, eqb-false, ne-eqb, lt-ltb, le-ltb}
+use lib.Dec.{eqb}
 use lib.ListN.{length, getD, set, length-set, length-append, length-drop, List·getD-append, List·getD-eq-default}
 use lib.Seq.{getD-set-same, getD-set-other, getD-append-seam, set-out}
 use Rattle.ground.specs.Bools.{cond-pick}
 use Rattle.ground.specs.Lists.{set-all}
 use Rattle.mail.specs.Box.{objects, boxAt, front, changed, behind, ahead, rest, pushBack, pushFront, tookFront}
 use Rattle.mail.specs.Box.{highestOf, highest, total, one, timesIn, queued, occurrences}
-use Rattle.mail.specs.Entry.{firstTimer, signals, entryOf, handOf, timerOf}
-use Rattle.mail.specs.declared.Hand.{Hand}
-use Rattle.mail.specs.declared.Hand.the-variants.{Nothing, Block, Timer}
+use Rattle.mail.specs.Entry.{firstTimer, signals, entryOf, handOf}
+use Rattle.mail.specs.declared.Hand.the-variants.{Block, Timer}
 
 -- the mailboxes after an operation
 module _ (f : List ℕ → List ℕ) (bs : List (List ℕ)) (q : ℕ) where
@@ -123,12 +122,6 @@ module _ (e : ℕ) where
 
 module _ (bs : List (List ℕ)) (q : ℕ) where
   module _ (l : q < length bs) (v : ℕ) where
-    pub queued-back : queued (pushBack bs q v) ≡ queued bs + 1
-    queued-back = omega (arith, total-changed length (behind v) bs q l, behind-length v (boxAt bs q))
-
-    pub queued-front : queued (pushFront bs q v) ≡ queued bs + 1
-    queued-front = omega (arith, total-changed length (ahead v) bs q l, ahead-length v (boxAt bs q))
-
     pub occurrences-back : (e : ℕ) → occurrences e (pushBack bs q v) ≡ occurrences e bs + one (eqb v e)
     occurrences-back e = omega (arith, total-changed (timesIn e) (behind v) bs q l, times-behind e v (boxAt bs q))
 
@@ -204,11 +197,7 @@ module _ (P : ℕ → Type 0) where
     pub all-took : OfAll P (tookFront bs q)
     all-took = all-changed rest (each-rest (boxAt bs q) (h q))
 
--- there and back: from what an entry stands for, and from an entry
-pub nothing-back : handOf (entryOf Nothing) ≡ Nothing
-unfolding handOf entryOf
-nothing-back = refl
-
+-- there and back, from what an entry stands for
 pub block-back : (b : ℕ) → b < firstTimer - 1 → handOf (entryOf (Block b)) ≡ Block b
 unfolding handOf entryOf
 block-back b l = rw (ne-eqb (1 + b) 0 (λ e. omega arith), lt-ltb (1 + b) firstTimer (omega arith)) (ap Block (omega arith))
@@ -220,16 +209,3 @@ timer-back t g l m =
     let e1 : (e - firstTimer) / signals % 256 ≡ t = omega arith in
     let e2 : (e - firstTimer) % signals ≡ g = omega arith in
     rw (ne-eqb e 0 (λ e. omega arith), le-ltb e firstTimer (omega arith)) (rw (e1, e2) refl)
-
-pub entry-back : (e : ℕ) → e < firstTimer + signals * 256 → entryOf (handOf e) ≡ e
-unfolding handOf entryOf
-entry-back e l = cond-pick is-e (eqb e 0) Nothing _ (λ z. sym (eqb-true e 0 z)) some
-  where
-    is-e : Hand → Type 0
-    is-e h = entryOf h ≡ e
-
-    some : eqb e 0 ≡ false → is-e (cond (ltb e firstTimer) (Block (e - 1)) (timerOf (e - firstTimer)))
-    some z =
-        cond-pick is-e (ltb e firstTimer) (Block (e - 1)) (timerOf (e - firstTimer))
-        (λ t. omega (arith, eqb-false e 0 z))
-        (λ t. omega (arith, ltb-false e firstTimer t))

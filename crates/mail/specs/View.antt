@@ -43,6 +43,3 @@ highest-count counts p e l =
 pub boxes-fresh : boxes (replicate (objects * room) 0) (replicate objects 0) (replicate objects 0) ≡ replicate objects []
 unfolding Rattle.mail.specs.Inside.boxes Rattle.mail.specs.Inside.boxOf Rattle.mail.specs.Inside.ring tabFrom
 boxes-fresh = refl
-
-pub mail-fresh : Mail (replicate (objects * room) 0) (replicate objects 0) (replicate objects 0)
-mail-fresh = record { places = refl; heads = refl; counts = refl }

@@ -7,7 +7,7 @@ ghost use Rattle.ground.specs.Range.{firstFrom, tab};
 ghost use Rattle.pool.specs.Cell.{isFree, isNew, atLast, nextGeneration, more, fewer, dropped};
 ghost use Rattle.pool.specs.Inside.{cells, freed, rowOf, Sized};
 ghost use Rattle.pool.specs.Promise.{Takes, Frees};
-ghost use Rattle.pool.specs.Row.{at, changed, freshRow, generationAt, staleAt, poolFor, lowestFree, goneAll, blocks};
+ghost use Rattle.pool.specs.Row.{at, changed, freshRow, generationAt, staleAt, poolFor, goneAll, blocks};
 use ground::wide;
 use numbers::BLOCKS;
 use numbers::LARGE;

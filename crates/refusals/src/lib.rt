@@ -77,7 +77,8 @@ pub fn start_refusal(
     started: bool,
     sound: bool,
 ) -> u8
-    ensures { λ r. ⌜ r ≡ lowest ((said.FORM, spoilt) ∷ (said.AREA, bad) ∷ (said.RANGE, noObject p) ∷ (said.RANGE, noSlot q) ∷ (said.RANGE, noDepth depth) ∷ (said.BUSY, busy) ∷ (said.ABSENT, not loaded) ∷ (said.TAKEN, started) ∷ (said.TABLE, not sound) ∷ []) ⌝ }
+    ensures { λ r. ⌜ r ≡ lowest ((said.FORM, spoilt) ∷ (said.AREA, bad) ∷ (said.RANGE, noObject p) ∷ (said.RANGE, noSlot q)
+        ∷ (said.RANGE, noDepth depth) ∷ (said.BUSY, busy) ∷ (said.ABSENT, not loaded) ∷ (said.TAKEN, started) ∷ (said.TABLE, not sound) ∷ []) ⌝ }
 {
     let n = first(TABLE, !sound, 0);
     let n = first(TAKEN, started, n);
@@ -111,7 +112,8 @@ pub fn post_refusal(
     started: bool,
     room: usize,
 ) -> u8
-    ensures { λ r. ⌜ r ≡ lowest ((said.FORM, spoilt) ∷ (said.RANGE, noBlock b) ∷ (said.RANGE, noObject p) ∷ (said.RANGE, noMargin margin) ∷ (said.STALE, stale) ∷ (said.ABSENT, not started) ∷ (said.FULL, leb room margin) ∷ []) ⌝ }
+    ensures { λ r. ⌜ r ≡ lowest ((said.FORM, spoilt) ∷ (said.RANGE, noBlock b) ∷ (said.RANGE, noObject p) ∷ (said.RANGE, noMargin margin)
+        ∷ (said.STALE, stale) ∷ (said.ABSENT, not started) ∷ (said.FULL, leb room margin) ∷ []) ⌝ }
 {
     let n = first(FULL, room <= margin, 0);
     let n = first(ABSENT, !started, n);
@@ -181,7 +183,8 @@ pub fn arm_refusal(
     started: bool,
     armed: bool,
 ) -> u8
-    ensures { λ r. ⌜ r ≡ lowest ((said.FORM, spoilt) ∷ (said.RANGE, noTimer t) ∷ (said.RANGE, noObject p) ∷ (said.RANGE, noSignal g) ∷ (said.RANGE, eqb ticks 0) ∷ (said.ABSENT, not started) ∷ (said.TAKEN, armed) ∷ []) ⌝ }
+    ensures { λ r. ⌜ r ≡ lowest ((said.FORM, spoilt) ∷ (said.RANGE, noTimer t) ∷ (said.RANGE, noObject p) ∷ (said.RANGE, noSignal g)
+        ∷ (said.RANGE, eqb ticks 0) ∷ (said.ABSENT, not started) ∷ (said.TAKEN, armed) ∷ []) ⌝ }
 {
     let n = first(TAKEN, armed, 0);
     let n = first(ABSENT, !started, n);

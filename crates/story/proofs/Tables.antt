@@ -211,10 +211,6 @@ module _ (h : Story) (c : Call) (first : List ℕ) (only : OnlyKernel tableArea 
     same-charts : (q : ℕ) → chartIn (then h c) q ≡ chartIn h q
     same-charts = charts-same h c (λ did. ne (did .0))
 
-    same-loaded : kernel (then h c) .loaded ≡ kernel h .loaded
-    unfolding kernel
-    same-loaded = frame h c .loaded ne
-
   refused-next : (number h c ≡ 0 → ⊥) → Next
   refused-next ne =
       let e = unchanged-state h c ne in

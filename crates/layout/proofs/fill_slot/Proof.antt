@@ -2,7 +2,6 @@ use borrow.Author.Needs.{needs}
 use mathlib.Core.Path.{_≡_, refl, sym, _∙_}
 use Prim.Native.Nat.{_+_, _*_, _-_}
 use native.Mathlib.Omega.{arith}
-use Rattle.chart.specs.Flat.{flattened}
 use Rattle.layout.proofs.Places.{slot-class, slot-filled, slot-left}
 use Rattle.layout.proofs.fill_slot.Statement.{statement}
 use Rattle.layout.proofs.fill_slot.Tie as tie

@@ -2,7 +2,7 @@ use borrow.Author.Needs.{needs}
 use mathlib.Core.Path.{refl, sym, _∙_}
 use native.Mathlib.Omega.{arith}
 use Rattle.machine.specs.Events.{post}
-use Rattle.commands.specs.View.{answered, stateOf}
+use Rattle.commands.specs.View.{answered}
 use Rattle.commands.proofs.Arrays.{mail-of}
 use Rattle.commands.proofs.Glue.{refusal, doing}
 use Rattle.commands.proofs.Posts.{Postable, postable, queued-is}

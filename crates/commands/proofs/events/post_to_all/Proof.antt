@@ -1,4 +1,3 @@
-use borrow.Author.Needs.{needs}
 use mathlib.Core.Path.{refl}
 use Rattle.commands.specs.View.{stateOf}
 use Rattle.commands.proofs.Arrays.{mail-of}

@@ -1,6 +1,6 @@
 use borrow.Author.Needs.{needs}
 use borrow.Author.Tests.{eq-eqb, ne-eqb}
-use mathlib.Core.Path.{_≡_, refl, sym, _∙_}
+use mathlib.Core.Path.{sym, _∙_}
 use Rattle.machine.specs.Events.{readPart}
 use Rattle.commands.specs.View.{stateOf}
 use Rattle.commands.proofs.Blocks.{readable}
