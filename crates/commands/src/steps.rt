@@ -42,41 +42,7 @@ const STOPPED: u8 = 2;
 fn with_hand(k: Kernel, hand: Hand) -> Kernel
     ensures { λ r. ⌜ r ≡ holding k hand ⌝ }
 {
-    let pool = k.pool;
-    let signals = k.signals;
-    let sizes = k.sizes;
-    let holds = k.holds;
-    let places = k.places;
-    let heads = k.heads;
-    let counts = k.counts;
-    let depths = k.depths;
-    let rests = k.rests;
-    let seats = k.seats;
-    let wants = k.wants;
-    let loaded = k.loaded;
-    let owners = k.owners;
-    let alarms = k.alarms;
-    let counters = k.counters;
-    let intervals = k.intervals;
-    Kernel {
-        pool,
-        signals,
-        sizes,
-        holds,
-        places,
-        heads,
-        counts,
-        depths,
-        rests,
-        seats,
-        wants,
-        loaded,
-        owners,
-        alarms,
-        counters,
-        intervals,
-        hand,
-    }
+    Kernel { hand, ..k }
 }
 
 // The front event of object p leaves the mailbox and is in hand; the next state is the new rest at once.
