@@ -1,0 +1,67 @@
+use borrow.Author.Needs.{needs}
+use mathlib.Core.Path.{_≡_, refl, ap, _∙_}
+use native.Mathlib.Omega.{arith}
+use Rattle.chart.specs.Flat.{sound}
+use Rattle.machine.specs.Charts.{start, startRow, startTests}
+use Rattle.machine.specs.Reply.{lowest}
+use Rattle.state.specs.View.{areas, answered, stateOf}
+use Rattle.state.proofs.Glue.{refusal, doing}
+use Rattle.charts.proofs.Slots.{Startable, start-tests, startable}
+use Rattle.charts.proofs.start.Statement.{statement}
+use Rattle.charts.proofs.start.Tie as tie
+
+module _ (c : tie.After-start-refusal) where
+  abbrev entry : tie.Start
+  entry = c .before .before .before .before .before .before .before .before .before
+
+  row-is : c .before .before .before .before .before .before .start-row .result .now ≡ startRow (entry .args .tables .now) (entry .args .q)
+  row-is = c .before .before .before .before .before .before .start-row .ensures
+
+  tests-are : c .start-refusal .result
+      ≡ lowest (startTests (entry .args .spoilt) (entry .args .p) (entry .args .q) (entry .args .depth) (stateOf (entry .args .k)) (entry .args .tables .now))
+  tests-are =
+      c .start-refusal .ensures
+      ∙ start-tests (entry .args .k) (entry .args .spoilt) (entry .args .p) (entry .args .q) (entry .args .depth) 0 (entry .args .tables .now) _ _ _ _
+      (c .before .before .before .before .before .is-open .ensures)
+      (c .before .before .before .before .is-loaded .ensures)
+      (c .before .before .of-object .ensures .0)
+      (c .before .sound .ensures ∙ ap sound row-is)
+
+  allowed : c .start-refusal .result ≡ 0 → Startable (entry .args .p) (entry .args .q) (entry .args .depth) (c .before .before .before .before .before .before .start-row .result .now)
+  allowed z = startable (entry .args .k) (entry .args .spoilt) (entry .args .p) (entry .args .q) (entry .args .depth) _ (entry .args .tables .now) _ row-is tests-are z
+
+returns : tie.Need-returns
+unfolding start
+returns c = λ x l. refusal _ _ _ _ (areas x _ l) _ (tests-are (c .before .before)) (c .before .if1 .taken) (c .refuse .ensures)
+
+shared-slice-read-started-at : tie.Need-shared-slice-read-started-at
+shared-slice-read-started-at c =
+    let h = allowed (c .before .before) (c .before .if1 .left) in
+    omega (arith, h .whole)
+
+started-at-requires : tie.Need-started-at-requires
+started-at-requires c κs =
+    let h = allowed (c .before .before) (c .before .if1 .left) in
+    (h .low, h .high, h .slot, h .deep)
+
+cast-ran : tie.Need-cast-ran
+cast-ran c =
+    let h = allowed (c .before .before .before) (c .before .before .if1 .left) in
+    omega (arith, h .high)
+
+ran-requires : tie.Need-ran-requires
+ran-requires c κs =
+    let h = allowed (c .before .before .before) (c .before .before .if1 .left) in
+    (h .whole, h .outcome, search needs)
+
+returns-2 : tie.Need-returns-2
+unfolding start answered
+returns-2 c = λ x l.
+    doing _ _ _ _ (areas x _ l) _ (tests-are (c .before .before .before .before)) (c .before .before .before .if1 .left)
+    (rw (c .before .started-at .ensures, c .ran .ensures, row-is (c .before .before .before .before)) refl)
+
+pub start-spec : {M : Type 1} → statement M
+start-spec =
+    tie.close
+    (tie.spec (λ c κs. search needs) (λ c κs. search needs) (λ c κs. search needs) (λ c κs. search needs) (λ c κs. search needs) (λ c κs. search needs) (λ c κs. search needs)
+    returns shared-slice-read-started-at started-at-requires cast-ran ran-requires returns-2)

@@ -1,0 +1,138 @@
+// LOAD and START, which use the tables.
+ghost use mathlib.Core.Bool.{not, _&&_};
+ghost use mathlib.Core.List.{List};
+ghost use mathlib.Core.Path.{_≡_};
+ghost use Prim.Native.Nat.{ℕ, _<_, _≤_};
+ghost use lib.Dec.{eqb};
+ghost use lib.ListN.{set};
+ghost use Rattle.machine.specs.Charts as machine;
+ghost use Rattle.machine.specs.Charts.{slotUsed, startedAt};
+ghost use Rattle.machine.specs.Numbers.{objects, slots};
+ghost use Rattle.machine.specs.State.{isLoaded, withLoaded};
+ghost use Rattle.state.specs.View.{answered, areas, stateOf};
+ghost use Rattle.mail.specs.Box.{room};
+use state::Answered;
+use state::Kernel;
+use state::is_open;
+use state::refuse;
+use chart::read::state_count;
+use ground::wide;
+use layout::fill_slot;
+use layout::start_row;
+use mail::of_object;
+use numbers::OBJECTS;
+use numbers::SLOTS;
+use numbers::TABLE_AREA;
+use refusals::load_refusal;
+use refusals::start_refusal;
+
+const LOADED: u8 = 1;
+
+// Whether an object of that depth and slot is started and uses slot q.
+fn uses(depth: u8, seat: u8, q: usize) -> bool
+    ensures { λ r. ⌜ r ≡ (not (eqb depth 0) && eqb seat q) ⌝ }
+{
+    if depth == 0 {
+        return false;
+    }
+    wide(seat) == q
+}
+
+// Whether an object uses slot q.
+fn slot_used(k: Kernel, q: usize) -> bool
+    ensures { λ r. ⌜ r ≡ slotUsed (stateOf k) q 16 ⌝ }
+{
+    let depths = k.depths;
+    let seats = k.seats;
+    let mut n = OBJECTS;
+    while 0 < n {
+        if uses(depths[n - 1], seats[n - 1], q) {
+            return true;
+        }
+        n -= 1;
+    }
+    false
+}
+
+// Slot q has a chart.
+fn with_chart(k: Kernel, q: usize) -> Kernel
+    requires { ⌜ q < slots ⌝ }
+    ensures { λ r. ⌜ stateOf r ≡ withLoaded (set (stateOf k .loaded) q 1) (stateOf k) ⌝ }
+{
+    let mut next = k;
+    next.loaded[q] = LOADED;
+    next
+}
+
+// LOAD slot.
+pub fn load(k: Kernel, spoilt: bool, q: usize, chart: &[u8], tables: &mut [u8]) -> Answered
+    ensures { λ r. ⌜ ((p l : List ℕ) → answered r (areas p (now (tables .exit)) l)
+        ≡ machine.load spoilt q (now (chart .entry)) (stateOf k) (areas p (now (tables .entry)) l)) ⌝ }
+{
+    let bad = tables.len() != TABLE_AREA;
+    let no = load_refusal(spoilt, bad, q, is_open(k.hand), slot_used(k, q));
+    if no != 0 {
+        return refuse(k, no);
+    }
+    let class = fill_slot(q, chart, tables);
+    if class != 0 {
+        return Answered {
+            kernel: k,
+            reply: reply::bad_chart(class as u8),
+        };
+    }
+    Answered {
+        kernel: with_chart(k, q),
+        reply: reply::done(state_count(chart) as u8, 0),
+    }
+}
+
+// Whether slot q is loaded.
+fn is_loaded(k: Kernel, q: usize) -> bool
+    ensures { λ r. ⌜ r ≡ isLoaded (stateOf k) q ⌝ }
+{
+    let loaded = k.loaded;
+    if SLOTS <= q {
+        return false;
+    }
+    loaded[q] == LOADED
+}
+
+// Object p is started.
+fn started_at(k: Kernel, p: usize, q: usize, depth: usize, rest: u8) -> Kernel
+    requires { ⌜ (1 ≤ p) × (p ≤ objects) × (q < slots) × (depth ≤ room) ⌝ }
+    ensures { λ r. ⌜ stateOf r ≡ startedAt (stateOf k) p q depth rest ⌝ }
+{
+    let mut next = k;
+    next.depths[p - 1] = depth as u8;
+    next.rests[p - 1] = rest;
+    next.seats[p - 1] = q as u8;
+    next
+}
+
+// START p, slot, depth.
+pub fn start(k: Kernel, spoilt: bool, p: usize, q: usize, depth: usize, tables: &[u8]) -> Answered
+    ensures { λ r. ⌜ ((x l : List ℕ) → answered r (areas x (now (tables .entry)) l)
+        ≡ machine.start spoilt p q depth (stateOf k) (areas x (now (tables .entry)) l)) ⌝ }
+{
+    let depths = k.depths;
+    let row = start_row(tables, q);
+    let no = start_refusal(
+        spoilt,
+        tables.len() != TABLE_AREA,
+        p,
+        q,
+        depth,
+        is_open(k.hand),
+        is_loaded(k, q),
+        of_object(&depths, p) != 0,
+        chart::sound(row),
+    );
+    if no != 0 {
+        return refuse(k, no);
+    }
+    Answered {
+        kernel: started_at(k, p, q, depth, row[0]),
+        reply: reply::ran(p as u8, 0, 0, 0, row),
+    }
+}

@@ -1,0 +1,3 @@
+pub mod Handles
+pub mod Posts
+pub mod Receivers

@@ -1,0 +1,143 @@
+// NEW and READ, which use the payload area.
+ghost use mathlib.Core.List.{List};
+ghost use mathlib.Core.Path.{_≡_};
+ghost use Prim.Native.Nat.{ℕ, _+_, _<_, _≤_};
+ghost use lib.ListN.{getD, length};
+ghost use Rattle.machine.specs.Events as machine;
+ghost use Rattle.machine.specs.Events.{newEvent, newIn, payloadOf, readPart, readTests};
+ghost use Rattle.machine.specs.Numbers.{placeOf, blocks, payloadBytes};
+ghost use Rattle.machine.specs.Reply.{lowest};
+ghost use Rattle.pool.specs.Cell.{handedOut};
+ghost use Rattle.pool.specs.Row.{changed};
+ghost use Rattle.pool.specs.View.{cells};
+ghost use Rattle.pool.specs.declared.Found.the-variants.{At};
+ghost use Rattle.state.specs.View.{answered, areas, Good, stateOf};
+use state::Answered;
+use state::Kernel;
+use state::refuse;
+use ground::wide;
+use layout::place_of;
+use layout::put_payload;
+use numbers::PAYLOAD_AREA;
+use pool::Found;
+use pool::Pool;
+use refusals::new_refusal;
+use refusals::read_refusal;
+
+// The event in block b, which the pool has handed out: its signal, its size, no holds.
+fn new_event(k: Kernel, pool: Pool, b: usize, g: u8, size: u8) -> Kernel
+    requires { ⌜ (b < blocks) × (cells pool ≡ changed handedOut (cells (k .pool)) b) ⌝ }
+    ensures { λ r. ⌜ stateOf r ≡ newEvent (stateOf k) b g size ⌝ }
+{
+    let mut next = k;
+    next.pool = pool;
+    next.signals[b] = g;
+    next.sizes[b] = size;
+    next.holds[b] = 0;
+    next
+}
+
+// What NEW does with block b.
+fn new_in(
+    k: Kernel,
+    pool: Pool,
+    b: usize,
+    g: u8,
+    size: u8,
+    payload: &[u8],
+    payloads: &mut [u8],
+) -> Answered
+    requires { ⌜ (b < blocks) × (size ≤ length (now payload)) × (length (now payloads) ≡ payloadBytes) × (cells pool ≡ changed handedOut (cells (k .pool)) b) ⌝ }
+    ensures { λ r. ⌜ ((t l : List ℕ) → answered r (areas (now (payloads .exit)) t l)
+        ≡ newIn (At b) g size (now (payload .entry)) (stateOf k) (areas (now (payloads .entry)) t l)) ⌝ }
+{
+    let n = wide(size);
+    put_payload(b, &payload[0..n], payloads);
+    let generation = pool::generation(k.pool, b);
+    Answered {
+        kernel: new_event(k, pool, b, g, size),
+        reply: reply::done(b as u8, generation),
+    }
+}
+
+// NEW signal, size, payload: the 64 payload bytes of the record.
+pub fn new(
+    k: Kernel,
+    spoilt: bool,
+    g: u8,
+    size: u8,
+    payload: &[u8],
+    payloads: &mut [u8],
+) -> Answered
+    requires { ⌜ length (now payload) ≡ 64 ⌝ }
+    ensures { λ r. ⌜ ((t l : List ℕ) → answered r (areas (now (payloads .exit)) t l)
+        ≡ machine.new spoilt g size (now (payload .entry)) (stateOf k) (areas (now (payloads .entry)) t l)) ⌝ }
+{
+    let n = wide(size);
+    let bad = payloads.len() != PAYLOAD_AREA;
+    let taken = pool::take(k.pool, n);
+    let found = taken.found;
+    match found {
+        Found::Nothing => refuse(k, new_refusal(spoilt, bad, wide(g), n, true)),
+        Found::At(b) => {
+            let no = new_refusal(spoilt, bad, wide(g), n, false);
+            if no != 0 {
+                return refuse(k, no);
+            }
+            new_in(k, taken.pool, b, g, size, payload, payloads)
+        }
+    }
+}
+
+// The tests of READ.
+fn read_no(k: Kernel, spoilt: bool, b: usize, generation: u8, payloads: &[u8]) -> u8
+    ensures { λ r. ⌜ r ≡ lowest (readTests spoilt b generation (stateOf k) (now (payloads .entry))) ⌝ }
+{
+    let stale = pool::stale(k.pool, b, generation);
+    read_refusal(spoilt, payloads.len() != PAYLOAD_AREA, b, stale)
+}
+
+// The payload of block b: the part of the payload area that it occupies.
+fn payload_in<'a>(k: Kernel, b: usize, payloads: &'a [u8]) -> &'a [u8]
+    requires { ⌜ (b < blocks) × (placeOf b + getD (k .sizes) b 0 ≤ length (now payloads)) ⌝ }
+    ensures { λ r. ⌜ now r ≡ payloadOf (stateOf k) b (now (payloads .entry)) ⌝ }
+{
+    let at = place_of(b);
+    let sizes = k.sizes;
+    let e = at + wide(sizes[b]);
+    &payloads[at..e]
+}
+
+// READ handle.
+pub fn read(k: Kernel, spoilt: bool, b: usize, generation: u8, payloads: &[u8]) -> Answered
+    requires { ⌜ Good k ⌝ }
+    ensures { λ r. ⌜ ((t l : List ℕ) → answered r (areas (now (payloads .entry)) t l)
+        ≡ machine.read spoilt b generation (stateOf k) (areas (now (payloads .entry)) t l)) ⌝ }
+{
+    let no = read_no(k, spoilt, b, generation, payloads);
+    if no != 0 {
+        return refuse(k, no);
+    }
+    Answered {
+        kernel: k,
+        reply: reply::shown(payload_in(k, b, payloads)),
+    }
+}
+
+// The part of the payload area that READ hands back; empty when refused.
+pub fn read_part<'a>(
+    k: Kernel,
+    spoilt: bool,
+    b: usize,
+    generation: u8,
+    payloads: &'a [u8],
+) -> &'a [u8]
+    requires { ⌜ Good k ⌝ }
+    ensures { λ r. ⌜ now r ≡ readPart spoilt b generation (stateOf k) (now (payloads .entry)) ⌝ }
+{
+    let no = read_no(k, spoilt, b, generation, payloads);
+    if no != 0 {
+        return &payloads[0..0];
+    }
+    payload_in(k, b, payloads)
+}

@@ -1,0 +1,2 @@
+-- Step: what one step makes of the state.
+pub mod Step

@@ -1,0 +1,197 @@
+// Steps: NEXT, END, DRAIN.
+ghost use mathlib.Core.Bool.{cond};
+ghost use mathlib.Core.List.{List};
+ghost use mathlib.Core.Path.{_≡_};
+ghost use Prim.Native.Nat.{ℕ, _-_, _<_, _≤_};
+ghost use lib.Dec.{eqb, ltb};
+ghost use lib.ListN.{getD, length};
+ghost use Rattle.machine.specs.Numbers.{tableBytes, logBytes, objects};
+ghost use Rattle.machine.specs.Reply.{Areas, answer, done, ran};
+ghost use Rattle.machine.specs.Run.{Fit};
+ghost use Rattle.machine.specs.State.{restOf, slotOf};
+ghost use Rattle.machine.specs.Steps as machine;
+ghost use Rattle.machine.specs.Steps.{drainDone, drainFrom, ended, frees, handle₁, handle₂, toRun};
+ghost use Rattle.mail.specs.Box.{front, one};
+ghost use Rattle.mail.specs.Entry.{handOf};
+ghost use Rattle.mail.specs.declared.Hand.the-variants.{Nothing};
+ghost use Rattle.drain.specs.Turn.{Looks, Runs};
+ghost use Rattle.state.specs.View.{answered, areas, Good, stateOf};
+ghost use Rattle.steps.specs.Step.{afterStep};
+use state::Answered;
+use state::NO_EVENT;
+use state::Kernel;
+use state::is_open;
+use state::refuse;
+use drain::Coming;
+use ground::one;
+use ground::wide;
+use numbers::LOG_AREA;
+use numbers::MOST_STEPS;
+use numbers::ROW_BYTES;
+use numbers::TABLE_AREA;
+use numbers::answer::TABLE;
+use refusals::drain_refusal;
+use refusals::end_refusal;
+use refusals::first;
+use refusals::next_refusal;
+
+// DRAIN's second value: nothing is queued, or it stopped below its budget.
+const ALL_DONE: u8 = 1;
+
+const STOPPED: u8 = 2;
+
+// The front event of object p leaves the mailbox and is in hand; the next state is the new rest at once.
+fn step(mut k: Kernel, p: usize, next: u8) -> Kernel
+    requires { ⌜ (1 ≤ p) × (p ≤ objects) × (0 < getD (k .counts) (p - 1) 0) ⌝ }
+    ensures { λ r. ⌜ stateOf r ≡ afterStep (stateOf k) p next ⌝ }
+{
+    let places = k.places;
+    let mut heads = k.heads;
+    let mut counts = k.counts;
+    k.hand = mail::take_front(&places, &mut heads, &mut counts, p - 1);
+    k.heads = heads;
+    k.counts = counts;
+    k.rests[p - 1] = next;
+    k
+}
+
+// The event that comes to object p, which has mail.
+fn coming(k: Kernel, p: usize) -> Coming
+    requires { ⌜ (1 ≤ p) × (p ≤ objects) × (0 < getD (k .counts) (p - 1) 0) ⌝ }
+    requires { ⌜ (p ≡ toRun (stateOf k)) × Fit (stateOf k) ⌝ }
+    ensures { λ r. ⌜ Looks (stateOf k) (front (stateOf k .boxes) (p - 1)) (restOf (stateOf k) p) (slotOf (stateOf k) p) r ⌝ }
+{
+    let places = k.places;
+    let heads = k.heads;
+    let counts = k.counts;
+    let signals = k.signals;
+    let rests = k.rests;
+    let seats = k.seats;
+    let e = mail::front(&places, &heads, &counts, p - 1);
+    drain::look(&signals, e, rests[p - 1], seats[p - 1])
+}
+
+// Object p takes a row with the event that comes.
+fn next_done(k: Kernel, p: usize, l: Coming, row: &[u8]) -> Answered
+    requires { ⌜ (1 ≤ p) × (p ≤ objects) × (0 < getD (k .counts) (p - 1) 0) ⌝ }
+    requires { ⌜ Runs p l (now row) ⌝ }
+    ensures { λ r. ⌜ ((z : Areas) → answered r z ≡
+        answer (afterStep (stateOf k) p (getD (now (row .entry)) 0 0))
+        (ran p (l .signal) (handle₁ (l .hand)) (handle₂ (stateOf k) (l .hand)) (now (row .entry))) z) ⌝ }
+{
+    let gens = pool::generations(k.pool);
+    Answered {
+        kernel: step(k, p, row[0]),
+        reply: drain::answer(p, l, &gens, row),
+    }
+}
+
+// NEXT. The row is tested last, once there is an event that it is for.
+pub fn next(k: Kernel, spoilt: bool, tables: &[u8]) -> Answered
+    requires { ⌜ Good k ⌝ }
+    ensures { λ r. ⌜ ((p l : List ℕ) → answered r (areas p (now (tables .entry)) l) ≡ machine.next spoilt (stateOf k) (areas p (now (tables .entry)) l)) ⌝ }
+{
+    let counts = k.counts;
+    let p = mail::highest(&counts);
+    let bad = tables.len() != TABLE_AREA;
+    let no = next_refusal(spoilt, bad, is_open(k.hand), p, true);
+    if no != 0 {
+        return refuse(k, no);
+    }
+    let l = coming(k, p);
+    let at = l.at;
+    let row = &tables[at..at + ROW_BYTES];
+    if !chart::sound(row) {
+        return refuse(k, TABLE);
+    }
+    next_done(k, p, l, row)
+}
+
+// The event in hand is let go.
+fn end_done(mut k: Kernel) -> Answered
+    ensures { λ r. ⌜ ((z : Areas) → answered r z ≡ answer (ended (stateOf k)) (done (one (frees (handOf (k .hand)) (stateOf k))) 0) z) ⌝ }
+{
+    let hand = mail::hand_of(k.hand);
+    let gone = pool::let_go(k.pool, wide(drain::block_of(hand)));
+    let pool = gone.pool;
+    k.pool = pool;
+    k.hand = NO_EVENT;
+    Answered {
+        kernel: k,
+        reply: reply::done(one(gone.freed), 0),
+    }
+}
+
+// END.
+pub fn end(k: Kernel, spoilt: bool) -> Answered
+    requires { ⌜ Good k ⌝ }
+    ensures { λ r. ⌜ ((z : Areas) → answered r z ≡ machine.end spoilt (stateOf k) z) ⌝ }
+{
+    let no = end_refusal(spoilt, is_open(k.hand));
+    if no != 0 {
+        return refuse(k, no);
+    }
+    end_done(k)
+}
+
+// DRAIN's second value: 1 if nothing is queued, else 2 if it stopped below its budget, else 0.
+fn drain_end(p: usize, steps: usize, budget: usize) -> u8
+    ensures { λ r. ⌜ r ≡ cond (eqb p 0) 1 (cond (ltb steps budget) 2 0) ⌝ }
+{
+    first(ALL_DONE, p == 0, first(STOPPED, steps < budget, 0))
+}
+
+// The steps of DRAIN over arrays of their own; then all their blocks are let go at once.
+fn drain_done(mut k: Kernel, budget: usize, tables: &[u8], log: &mut [u8]) -> Answered
+    requires { ⌜ Good k × (handOf (k .hand) ≡ Nothing) × (budget < 256) ⌝ }
+    requires { ⌜ (length (now tables) ≡ tableBytes) × (length (now log) ≡ logBytes) ⌝ }
+    ensures { λ r. ⌜ ((p : List ℕ) → answered r (areas p (now (tables .entry)) (now (log .exit)))
+        ≡ drainDone budget (drainFrom budget 0 (stateOf k) (now (tables .entry)) (now (log .entry))) (areas p (now (tables .entry)) (now (log .entry)))) ⌝ }
+{
+    let places = k.places;
+    let mut heads = k.heads;
+    let mut counts = k.counts;
+    let mut rests = k.rests;
+    let seats = k.seats;
+    let signals = k.signals;
+    let gens = pool::generations(k.pool);
+    let mut gone = [0u8; MOST_STEPS];
+    let n = drain::run(
+        &places,
+        &mut heads,
+        &mut counts,
+        &mut rests,
+        &seats,
+        &signals,
+        &gens,
+        &mut gone,
+        tables,
+        log,
+        budget,
+    );
+    let pool = pool::let_go_all(k.pool, &gone[0..n]);
+    let last = drain_end(mail::highest(&counts), n, budget);
+    k.pool = pool;
+    k.heads = heads;
+    k.counts = counts;
+    k.rests = rests;
+    Answered {
+        kernel: k,
+        reply: reply::done(n as u8, last),
+    }
+}
+
+// DRAIN budget.
+pub fn drain(k: Kernel, spoilt: bool, budget: usize, tables: &[u8], log: &mut [u8]) -> Answered
+    requires { ⌜ Good k × (budget < 256) ⌝ }
+    ensures { λ r. ⌜ ((p : List ℕ) → answered r (areas p (now (tables .entry)) (now (log .exit)))
+        ≡ machine.drain spoilt budget (stateOf k) (areas p (now (tables .entry)) (now (log .entry)))) ⌝ }
+{
+    let bad_tables = tables.len() != TABLE_AREA;
+    let bad_log = log.len() != LOG_AREA;
+    let no = drain_refusal(spoilt, bad_tables, bad_log, is_open(k.hand));
+    if no != 0 {
+        return refuse(k, no);
+    }
+    drain_done(k, budget, tables, log)
+}
