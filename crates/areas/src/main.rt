@@ -15,7 +15,7 @@
 // over all its bytes; then the length and the sum of the part that READ hands back.
 
 ghost use Prim.Native.Nat.{_≤_};
-ghost use Rattle.commands.specs.View.{Good};
+ghost use Rattle.state.specs.View.{Good};
 use input::low_byte_first;
 use input::read_exactly;
 use kernel::Answered;

@@ -1,4 +1,6 @@
 // LOAD and START, which use the tables.
+pub mod records;
+
 ghost use mathlib.Core.Bool.{not, _&&_};
 ghost use mathlib.Core.List.{List};
 ghost use mathlib.Core.Path.{_≡_};

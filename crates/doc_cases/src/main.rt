@@ -5,7 +5,7 @@
 // FRESH begins a trace, with a fresh kernel and areas of zeros. Remarks and empty lines are written as they are.
 // So the program has to write what it reads: stdout is a copy of stdin.
 ghost use Prim.Native.Nat.{_≤_};
-ghost use Rattle.commands.specs.View.{Good};
+ghost use Rattle.state.specs.View.{Good};
 use kernel::Kernel;
 use numbers::LOG_AREA;
 use numbers::PAYLOAD_AREA;

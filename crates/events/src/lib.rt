@@ -1,4 +1,6 @@
 // Events and their blocks.
+pub mod records;
+
 ghost use mathlib.Core.Bool.{false};
 ghost use mathlib.Core.Path.{_≡_};
 ghost use Prim.Native.Nat.{ℕ, _-_, _<_, _≤_};

@@ -16,9 +16,9 @@ use Rattle.machine.specs.Machine.{answerTo, arg, choose, command}
 use Rattle.machine.specs.Numbers.{outside}
 use Rattle.machine.specs.Reply.{FORM, Areas, answer, no, replyOf}
 use Rattle.machine.specs.State.{State}
-use Rattle.commands.specs.View.{Good, answered, stateOf}
-use Rattle.commands.specs.declared.Answered.{Answered}
-use Rattle.commands.specs.declared.Kernel.{Kernel}
+use Rattle.state.specs.View.{Good, answered, stateOf}
+use Rattle.state.specs.declared.Answered.{Answered}
+use Rattle.state.specs.declared.Kernel.{Kernel}
 
 -- n is none of 1 to m
 abbrev NoneTo : ℕ → ℕ → Type 0

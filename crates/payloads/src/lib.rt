@@ -1,4 +1,6 @@
 // NEW and READ, which use the payload area.
+pub mod records;
+
 ghost use mathlib.Core.List.{List};
 ghost use mathlib.Core.Path.{_≡_};
 ghost use Prim.Native.Nat.{ℕ, _+_, _<_, _≤_};

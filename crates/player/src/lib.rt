@@ -1,7 +1,7 @@
 // Plays a trace: takes it in piece by piece, finds the chart of a LOAD in its file, and has the kernel answer.
 ghost use Prim.Native.Nat.{_<_, _≤_};
 ghost use Rattle.io.specs.Counts.{Counts};
-ghost use Rattle.commands.specs.View.{Good};
+ghost use Rattle.state.specs.View.{Good};
 use kernel::Answered;
 use kernel::Kernel;
 use numbers::LOG_AREA;

@@ -1,4 +1,6 @@
 // Steps: NEXT, END, DRAIN.
+pub mod records;
+
 ghost use mathlib.Core.Bool.{cond};
 ghost use mathlib.Core.List.{List};
 ghost use mathlib.Core.Path.{_≡_};

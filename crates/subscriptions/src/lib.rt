@@ -1,4 +1,6 @@
 // Subscriptions.
+pub mod records;
+
 ghost use mathlib.Core.Bool.{cond, not};
 ghost use mathlib.Core.Path.{_≡_};
 ghost use Prim.Native.Nat.{_≤_};

@@ -2,7 +2,7 @@
 use mathlib.Core.Path.{_≡_}
 use lib.ListN.{length}
 use borrow.Author.Needs.{needs}
-use Rattle.commands.specs.View.{Good}
+use Rattle.state.specs.View.{Good}
 use Rattle.areas.proofs.main.Statement.{statement}
 use Rattle.areas.proofs.main.Tie as tie
 

@@ -2,7 +2,7 @@
 use mathlib.Core.Path.{_≡_}
 use lib.ListN.{length}
 use borrow.Author.Needs.{needs}
-use Rattle.commands.specs.View.{Good}
+use Rattle.state.specs.View.{Good}
 use Rattle.doc_cases.proofs.play_on.Statement.{statement}
 use Rattle.doc_cases.proofs.play_on.Tie as tie
 

@@ -3,8 +3,8 @@ use mathlib.Core.Path.{_≡_, refl}
 use Prim.Native.Nat.{ℕ}
 use Rattle.machine.specs.Machine.{answerTo, arg, command}
 use Rattle.machine.specs.Reply.{Areas}
-use Rattle.commands.specs.View.{Good, answered, stateOf}
-use Rattle.commands.specs.declared.Answered.{Answered}
+use Rattle.state.specs.View.{Good, answered, stateOf}
+use Rattle.state.specs.declared.Answered.{Answered}
 use Rattle.kernel.proofs.Dispatch.{known, no-record, unknown}
 use Rattle.kernel.proofs.command.Statement.{statement}
 use Rattle.kernel.proofs.command.Tie as tie

@@ -1,0 +1,65 @@
+// What a record's bytes are to NEW and READ.
+ghost use mathlib.Core.List.{List};
+ghost use mathlib.Core.Path.{_≡_};
+ghost use Prim.Native.Nat.{ℕ};
+ghost use lib.ListN.{getD, length};
+ghost use Rattle.machine.specs.Events.{readPart};
+ghost use Rattle.machine.specs.Machine as machine;
+ghost use Rattle.machine.specs.Machine.{command};
+ghost use Rattle.machine.specs.Numbers.{recordBytes};
+ghost use Rattle.state.specs.View.{answered, areas, Good, stateOf};
+use arguments::FIRST_PAYLOAD;
+use arguments::arg;
+use arguments::spoilt;
+use arguments::spoilt_new;
+use ground::byte_at;
+use numbers::RECORD_BYTES;
+use state::Answered;
+use state::Kernel;
+
+// NEW signal, size, payload.
+pub fn new_command(k: Kernel, record: &[u8], payloads: &mut [u8]) -> Answered
+    requires { ⌜ Good k ⌝ }
+    requires { ⌜ length (now «record») ≡ recordBytes ⌝ }
+    ensures { λ r. ⌜ ((d t l : List ℕ) → answered r (areas (now (payloads .exit)) t l)
+        ≡ command 3 (now («record» .entry)) d (stateOf k) (areas (now (payloads .entry)) t l)) ⌝ }
+{
+    super::new(
+        k,
+        spoilt_new(record, arg(record, 2)),
+        byte_at(record, 1),
+        byte_at(record, 2),
+        &record[FIRST_PAYLOAD..RECORD_BYTES],
+        payloads,
+    )
+}
+
+// READ handle.
+pub fn read_command(k: Kernel, record: &[u8], payloads: &[u8]) -> Answered
+    requires { ⌜ Good k ⌝ }
+    ensures { λ r. ⌜ ((d t l : List ℕ) → answered r (areas (now (payloads .entry)) t l)
+        ≡ command 17 (now («record» .entry)) d (stateOf k) (areas (now (payloads .entry)) t l)) ⌝ }
+{
+    super::read(
+        k,
+        spoilt(record, 2),
+        arg(record, 1),
+        byte_at(record, 2),
+        payloads,
+    )
+}
+
+// The part of the payload area that READ hands back.
+pub fn read_part_of<'a>(k: Kernel, record: &[u8], payloads: &'a [u8]) -> &'a [u8]
+    requires { ⌜ Good k ⌝ }
+    ensures { λ r. ⌜ now r ≡ readPart (machine.spoilt 2 (now («record» .entry))) (getD (now («record» .entry)) 1 0) (getD (now («record» .entry)) 2 0)
+        (stateOf k) (now (payloads .entry)) ⌝ }
+{
+    super::read_part(
+        k,
+        spoilt(record, 2),
+        arg(record, 1),
+        byte_at(record, 2),
+        payloads,
+    )
+}
