@@ -5,8 +5,9 @@ use Prim.Native.Nat.{_+_, _-_, _<_, _≤_}
 use native.Mathlib.Omega.{arith}
 use lib.ListN.{getD, take, drop, length, length-set}
 use Rattle.chart.specs.Flat.{sound}
+use Rattle.chart.specs.Numbers.{rowSize}
 use Rattle.ground.specs.Bools.{no-yes, refused, passed}
-use Rattle.machine.specs.Numbers.{tableBytes}
+use Rattle.machine.specs.Numbers.{objects, tableBytes}
 use Rattle.machine.specs.Run.{Fit, seen}
 use Rattle.machine.specs.State.{State, restOf, slotOf}
 use Rattle.machine.specs.Steps.{nextRow}
@@ -29,7 +30,7 @@ fit c =
     let p = c .before .highest in
     s .pre .1 .1 (omega (arith, p .ensures .0 (s .args .places .now) (s .args .heads .now), c .if1 .left))
 
-with-mail : (c : tie.Else1) → let p = c .before .highest .result in (p - 1 < 16) × (0 < getD (c .before .before .before .before .before .args .counts .now) (p - 1) 0)
+with-mail : (c : tie.Else1) → let p = c .before .highest .result in (p - 1 < objects) × (0 < getD (c .before .before .before .before .before .args .counts .now) (p - 1) 0)
 with-mail c =
     let h = c .before .highest .ensures in
     (omega (arith, h .1), highest-count _ _ (h .0) (omega arith))
@@ -46,7 +47,7 @@ looked : (c : tie.After-look) →
     Looks (here at) (front (here at .boxes) (p - 1)) (restOf (here at) p) (slotOf (here at) p) (c .look .result)
 looked c = let at = c .before .before .before .before .before .before in rw (c .before .before .before .front .ensures) at (c .look .ensures (here at) refl)
 
-within : (c : tie.After-look) → c .look .result .at + 24 ≤ tableBytes
+within : (c : tie.After-look) → c .look .result .at + rowSize ≤ tableBytes
 within c =
     let at = c .before .before .before .before .before .before in
     row-end (here at) (at .before .before .before .before .before .args .tables .now) _ (at .before .highest .ensures .0 _ _) _ (looked c) (fit at)
@@ -65,7 +66,7 @@ returns c =
 row-is : (c : tie.After-look) →
     let at = c .before .before .before .before .before .before in
     let tables = at .before .before .before .before .before .args .tables .now in
-    take (c .look .result .at + 24 - c .look .result .at) (drop (c .look .result .at) tables) ≡ nextRow (here at) tables
+    take (c .look .result .at + rowSize - c .look .result .at) (drop (c .look .result .at) tables) ≡ nextRow (here at) tables
 row-is c =
     let at = c .before .before .before .before .before .before in
     row-read (here at) (at .before .before .before .before .before .args .tables .now) _ (at .before .highest .ensures .0 _ _) _ (looked c)
