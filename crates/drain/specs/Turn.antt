@@ -7,7 +7,7 @@ use lib.ListN.{length, getD, set, take}
 use Rattle.chart.specs.Flat.{place}
 use Rattle.chart.specs.Numbers.{slotSize, rowSize}
 use Rattle.machine.specs.Inv.{IsEvent}
-use Rattle.machine.specs.Numbers.{objects, signalPlaces, mostSteps, logBytes, replyBytes}
+use Rattle.machine.specs.Numbers.{signalPlaces, mostSteps, logBytes, replyBytes}
 use Rattle.machine.specs.Reply.{over, replyOf, ran}
 use Rattle.machine.specs.Run.{Run, mayStep, onward, blockOf}
 use Rattle.machine.specs.State.{State}
@@ -39,7 +39,6 @@ pub record Runs (p : ℕ) (l : Coming) (row : List ℕ) : Type 0 where
 -- The arrays that a run changes, and the mailboxes' places, have their lengths.
 pub record Sized (pl hs cs gn lg : List ℕ) : Type 0 where
   pub mail : Mail pl hs cs
-  pub counts : length cs ≡ objects
   pub gone : length gn ≡ mostSteps
   pub log : length lg ≡ logBytes
 

@@ -29,7 +29,7 @@ boxOf places heads counts q = ring places q (getD heads q 0) (getD counts q 0)
 unfoldable pub boxes : List ℕ → List ℕ → List ℕ → List (List ℕ)
 boxes places heads counts = tab (boxOf places heads counts) (length counts)
 
--- There are as many mailboxes as counts, and the other arrays have their lengths.
+-- There are as many mailboxes as counts; the other arrays have their lengths.
 pub record Mail (pl hs cs : List ℕ) : Type 0 where
   pub places : length pl ≡ room * length cs
   pub heads : length hs ≡ length cs

@@ -5,8 +5,8 @@ use Prim.Native.Nat.{ℕ, _*_, _-_, _<_}
 use native.Mathlib.Decide.{decLt}
 use native.Mathlib.Omega.{arith}
 use lib.ListN.{length, getD, replicate, length-replicate, List·getD-eq-default}
-use Rattle.ground.specs.Range.{tabFrom}
 use Rattle.ground.specs.Padding.{zeros-at}
+use Rattle.ground.specs.Range.{tabFrom}
 use Rattle.ground.specs.Tab.{length-tab, getD-tab, getD-tab-out, tab-constant}
 use Rattle.mail.specs.Box.{room, boxAt, highest}
 use Rattle.mail.specs.Laws.{highest-is}

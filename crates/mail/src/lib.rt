@@ -29,7 +29,7 @@ pub enum Hand {
     Timer(u8, u8),
 }
 
-// The place of entry i, counted from the front, in the mailbox of object q with its head at h. The places of a ring have numbers.
+// The place of entry i, counted from the front, in the mailbox of object q with its head at h. Every place of that ring is an index.
 fn place(q: usize, h: usize, i: usize) -> usize
     requires { ⌜ (room * q + room < 2 ^ 64) × (h < 256) × (i < 256) ⌝ }
     ensures { λ r. ⌜ r ≡ placeOf q h i ⌝ }
@@ -37,13 +37,7 @@ fn place(q: usize, h: usize, i: usize) -> usize
     PLACES * q + (h + i) % PLACES
 }
 
-pub fn push_back(
-    places: &mut [u16],
-    heads: &[u8],
-    counts: &mut [u8],
-    q: usize,
-    e: u16,
-)
+pub fn push_back(places: &mut [u16], heads: &[u8], counts: &mut [u8], q: usize, e: u16)
     requires { ⌜ Mail (now places) (now heads) (now counts) ⌝ }
     requires { ⌜ (q < length (now counts)) × (getD (now counts) q 0 < room) ⌝ }
     ensures { λ r. ⌜ Holds (now (places .exit)) (now (heads .entry)) (now (counts .exit))
@@ -56,13 +50,7 @@ pub fn push_back(
     counts[q] = (n + 1) as u8;
 }
 
-pub fn push_front(
-    places: &mut [u16],
-    heads: &mut [u8],
-    counts: &mut [u8],
-    q: usize,
-    e: u16,
-)
+pub fn push_front(places: &mut [u16], heads: &mut [u8], counts: &mut [u8], q: usize, e: u16)
     requires { ⌜ Mail (now places) (now heads) (now counts) ⌝ }
     requires { ⌜ (q < length (now counts)) × (getD (now counts) q 0 < room) ⌝ }
     ensures { λ r. ⌜ Holds (now (places .exit)) (now (heads .exit)) (now (counts .exit))
@@ -77,12 +65,7 @@ pub fn push_front(
 }
 
 // The front entry, which leaves.
-pub fn take_front(
-    places: &[u16],
-    heads: &mut [u8],
-    counts: &mut [u8],
-    q: usize,
-) -> u16
+pub fn take_front(places: &[u16], heads: &mut [u8], counts: &mut [u8], q: usize) -> u16
     requires { ⌜ Mail (now places) (now heads) (now counts) ⌝ }
     requires { ⌜ (q < length (now counts)) × (0 < getD (now counts) q 0) ⌝ }
     ensures { λ r. ⌜ Holds (now (places .entry)) (now (heads .exit)) (now (counts .exit))
@@ -99,12 +82,7 @@ pub fn take_front(
 }
 
 // The front entry, which stays.
-pub fn front(
-    places: &[u16],
-    heads: &[u8],
-    counts: &[u8],
-    q: usize,
-) -> u16
+pub fn front(places: &[u16], heads: &[u8], counts: &[u8], q: usize) -> u16
     requires { ⌜ Mail (now places) (now heads) (now counts) ⌝ }
     requires { ⌜ (q < length (now counts)) × (0 < getD (now counts) q 0) ⌝ }
     ensures { λ r. ⌜ r ≡ front (boxes (now (places .entry)) (now (heads .entry)) (now (counts .entry))) q ⌝ }
