@@ -18,7 +18,7 @@ use Rattle.ground.specs.Parts.{part-over}
 use Rattle.ground.specs.Tab.{getD-tab}
 use Rattle.machine.proofs.KeepsCharts.{sound-row}
 use Rattle.machine.specs.Inv.{IsEvent}
-use Rattle.machine.specs.Numbers.{tableBytes, logBytes, replyBytes}
+use Rattle.machine.specs.Numbers.{objects, signalPlaces, tableBytes, mostSteps, logBytes, replyBytes}
 use Rattle.machine.specs.Reply.{IDLE, TABLE, lowest, over}
 use Rattle.machine.specs.Run.{Run, Fit, blockOf, onward, seen}
 use Rattle.machine.specs.State.{State, restOf, slotOf}
@@ -32,7 +32,7 @@ use Rattle.drain.specs.Turn.{Generations, Looks, Runs, Acts, runAt}
 use Rattle.drain.specs.declared.Coming.{Coming}
 
 -- line n of the log, as its part comes back
-module _ (log line v : List ℕ) (n : ℕ) (l : length log ≡ logBytes) (h : n < 255) (e : length line ≡ replyBytes) where
+module _ (log line v : List ℕ) (n : ℕ) (l : length log ≡ logBytes) (h : n < mostSteps) (e : length line ≡ replyBytes) where
   pub log-line : let a = replyBytes * n in let k = a + replyBytes - a in v ≡ padded (length (midOf a k log)) line → putMid a k log v ≡ over log a line
   unfolding over
   log-line p =
@@ -83,9 +83,9 @@ module _ (s : State) (tables : List ℕ) (p : ℕ) (e : p ≡ toRun s) where
     unfolding coming
     row-end f = rw (w .at, e) (f .end)
 
-    pub runs : Fit s → p ≤ 16 → (row : List ℕ) → sound row ≡ true → Runs p l row
+    pub runs : Fit s → p ≤ objects → (row : List ℕ) → sound row ≡ true → Runs p l row
     runs f h row t =
-        let g : l .signal < 32 = rw signal-is (omega (arith, f .signal .high)) in
+        let g : l .signal < signalPlaces = rw signal-is (omega (arith, f .signal .high)) in
         let o = sound-row row t in
         record { object = omega arith; event = rw hand-is (f .event); signal = g; long = o .0; outcome = o .1 }
 

@@ -7,7 +7,7 @@ use lib.ListN.{length, getD, set, take}
 use Rattle.chart.specs.Flat.{place}
 use Rattle.chart.specs.Numbers.{slotSize, rowSize}
 use Rattle.machine.specs.Inv.{IsEvent}
-use Rattle.machine.specs.Numbers.{logBytes, replyBytes}
+use Rattle.machine.specs.Numbers.{signalPlaces, mostSteps, logBytes, replyBytes}
 use Rattle.machine.specs.Reply.{over, replyOf, ran}
 use Rattle.machine.specs.Run.{Run, mayStep, onward, blockOf}
 use Rattle.machine.specs.State.{State}
@@ -32,14 +32,14 @@ pub record Looks (s : State) (e rest seat : ℕ) (l : Coming) : Type 0 where
 pub record Runs (p : ℕ) (l : Coming) (row : List ℕ) : Type 0 where
   pub object : p < 256
   pub event : IsEvent (l .hand)
-  pub signal : l .signal < 32
+  pub signal : l .signal < signalPlaces
   pub long : length row ≡ rowSize
   pub outcome : getD row 1 0 ≤ 2
 
 -- The arrays that a run changes, and the mailboxes' places, have their lengths.
 pub record Sized (pl hs cs gn lg : List ℕ) : Type 0 where
   pub mail : Mail pl hs cs
-  pub gone : length gn ≡ 255
+  pub gone : length gn ≡ mostSteps
   pub log : length lg ≡ logBytes
 
 -- The run that the arrays have come to after n steps.

@@ -4,7 +4,7 @@ ghost use mathlib.Core.Path.{_≡_};
 ghost use Prim.Native.Nat.{_+_, _-_, _<_, _≤_};
 ghost use lib.ListN.{getD, length};
 ghost use Rattle.machine.specs.Inv.{IsEvent};
-ghost use Rattle.machine.specs.Numbers.{tableBytes, objects};
+ghost use Rattle.machine.specs.Numbers.{tableBytes, mostSteps, objects};
 ghost use Rattle.machine.specs.Reply.{replyOf, ran};
 ghost use Rattle.machine.specs.Run.{FitFor, FitRun, blockOf, runFrom, seen};
 ghost use Rattle.machine.specs.State.{State};
@@ -124,7 +124,7 @@ fn take_step(
     n: usize,
 )
     requires { ⌜ Sized (now places) (now heads) (now counts) (now gone) (now log) ⌝ }
-    requires { ⌜ (q < objects) × (0 < getD (now counts) q 0) × (n < 255) ⌝ }
+    requires { ⌜ (q < objects) × (0 < getD (now counts) q 0) × (n < mostSteps) ⌝ }
     requires { ⌜ Runs (q + 1) l (now row) ⌝ }
     ensures { λ _. ⌜ Acts (now (places .entry)) (now (heads .entry)) (now (counts .entry)) (now (rests .entry)) (now (gone .entry)) (now (log .entry))
         (now (gens .entry)) (now (row .entry)) q l n (now (heads .exit)) (now (counts .exit)) (now (rests .exit)) (now (gone .exit)) (now (log .exit)) ⌝ }
@@ -155,7 +155,7 @@ fn drain_step(
     n: usize,
 ) -> bool
     requires { ⌜ Sized (now places) (now heads) (now counts) (now gone) (now log) ⌝ }
-    requires { ⌜ (length (now tables) ≡ tableBytes) × (n < 255) ⌝ }
+    requires { ⌜ (length (now tables) ≡ tableBytes) × (n < mostSteps) ⌝ }
     requires { ⌜ FitFor (seen (now gens) (now signals) (now seats) (runAt (now places) (now heads) (now counts) (now rests) (now gone) (now log) n)) ⌝ }
     ensures { λ r. ⌜ Turn (now (gens .entry)) (now (signals .entry)) (now (seats .entry)) (now (tables .entry))
         (runAt (now (places .entry)) (now (heads .entry)) (now (counts .entry)) (now (rests .entry)) (now (gone .entry)) (now (log .entry)) n)
@@ -193,7 +193,7 @@ pub fn run(
     log: &mut [u8],
     budget: usize,
 ) -> usize
-    requires { ⌜ Sized (now places) (now heads) (now counts) (now gone) (now log) × (length (now tables) ≡ tableBytes) × (budget ≤ 255) ⌝ }
+    requires { ⌜ Sized (now places) (now heads) (now counts) (now gone) (now log) × (length (now tables) ≡ tableBytes) × (budget ≤ mostSteps) ⌝ }
     requires { ⌜ FitRun (now gens) (now signals) (now seats) (now tables) (runAt (now places) (now heads) (now counts) (now rests) (now gone) (now log) 0) ⌝ }
     ensures { λ r. ⌜ Sized (now (places .entry)) (now (heads .exit)) (now (counts .exit)) (now (gone .exit)) (now (log .exit))
         × (runAt (now (places .entry)) (now (heads .exit)) (now (counts .exit)) (now (rests .exit)) (now (gone .exit)) (now (log .exit)) r

@@ -10,8 +10,8 @@ use lib.Dec.{eqb, ltb}
 use lib.ListN.{length, getD, set}
 use lib.Seq.{getD-set-same, getD-set-other}
 use Rattle.ground.specs.Bools.{no-yes, cond-pick}
-use Rattle.mail.specs.Box.{boxAt, occurrences, one}
-use Rattle.mail.specs.Entry.{firstTimer, entryOf, handOf, timerOf}
+use Rattle.mail.specs.Box.{room, boxAt, occurrences, one}
+use Rattle.mail.specs.Entry.{firstTimer, signals, entryOf, handOf, timerOf}
 use Rattle.mail.specs.Laws.{occurrences-most}
 use Rattle.mail.specs.declared.Hand.{Hand}
 use Rattle.mail.specs.declared.Hand.the-variants.{Nothing, Block, Timer}
@@ -19,6 +19,7 @@ use Rattle.pool.specs.Cell.{Cell, free, live, absent, isFree, staleFor, handedO
 use Rattle.pool.specs.Laws.{changed-here, changed-other}
 use Rattle.pool.specs.Row.{at, blocks, changed, staleAt}
 use Rattle.machine.specs.Inv.{Inv, inHand, references, countOf, isLive}
+use Rattle.machine.specs.Numbers.{objects, mostHolds}
 use Rattle.machine.specs.State.{State}
 
 -- One block: what each operation makes of its count, and that none but handing out makes it live.
@@ -158,12 +159,12 @@ hand-most Nothing b = omega arith
 hand-most (Block x) b = cond-pick (λ k. k ≤ 1) (eqb x b) 1 0 (λ e. omega arith) (λ e. omega arith)
 hand-most (Timer t g) b = omega arith
 
--- at most 16 × 16 entries, 15 holds and the hand
-pub references-most : (s : State) (b : ℕ) → Inv s → references s b ≤ 272
+-- at most as many entries as there are places, the holds and the hand
+pub references-most : (s : State) (b : ℕ) → Inv s → references s b ≤ room * objects + mostHolds + 1
 unfolding references
 references-most s b i =
-    let m : (q : ℕ) → length (boxAt (s .boxes) q) ≤ 16 = λ q. omega (arith, i .mail .room q, i .mail .deep q) in
-    omega (arith, occurrences-most (s .boxes) (entryOf (Block b)) 16 m, i .store .held b, hand-most (s .hand) b)
+    let m : (q : ℕ) → length (boxAt (s .boxes) q) ≤ room = λ q. omega (arith, i .mail .room q, i .mail .deep q) in
+    omega (arith, occurrences-most (s .boxes) (entryOf (Block b)) room m, i .store .held b, hand-most (s .hand) b)
 
 -- an entry among the mailboxes, and the event that it stands for in hand, refer to the same block
 pub same-entry : (b k : ℕ) → one (eqb (entryOf (Block b)) (entryOf (Block k))) ≡ one (eqb b k)
@@ -176,7 +177,7 @@ same-entry b k = go (ℕ-discrete b k)
 
 pub other-entry : (t g k : ℕ) → k < blocks → one (eqb (entryOf (Timer t g)) (entryOf (Block k))) ≡ 0
 unfolding entryOf
-other-entry t g k h = rw (ne-eqb (firstTimer + 32 * t + g) (1 + k) (λ e. omega arith))
+other-entry t g k h = rw (ne-eqb (firstTimer + signals * t + g) (1 + k) (λ e. omega arith))
 
 pub entry-in-hand : (e k : ℕ) → k < blocks → inHand (handOf e) k ≡ one (eqb e (entryOf (Block k)))
 unfolding handOf entryOf inHand

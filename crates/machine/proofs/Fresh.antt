@@ -12,6 +12,7 @@ use Rattle.mail.specs.declared.Hand.the-variants.{Block}
 use Rattle.pool.specs.Cell.{free, absent}
 use Rattle.pool.specs.Row.{at, blocks, freshRow}
 use Rattle.machine.specs.Inv.{Inv, InHand, references, countOf, isLive, inHand}
+use Rattle.machine.specs.Numbers.{objects, timers, signalPlaces}
 use Rattle.machine.specs.State.{freshState}
 
 -- a list of one value, read anywhere, is that value or the default
@@ -42,30 +43,30 @@ fresh-inv = record {
     holds-length = refl;
     signal = λ b h. not-live b h;
     size = λ b h. not-live b h;
-    held = λ b. omega (arith, zeros 56 b);
+    held = λ b. omega (arith, zeros blocks b);
   };
   mail = record {
     boxes-length = refl;
-    deep = λ q. omega (arith, zeros 16 q);
-    room = λ q. each (λ (l : List ℕ). length l ≤ getD (replicate 16 0) q 0) 16 [] [] (omega arith) (omega arith) q;
-    entries = λ q i h. absurd (omega (arith, each (λ (l : List ℕ). length l ≡ 0) 16 [] [] refl refl q));
+    deep = λ q. omega (arith, zeros objects q);
+    room = λ q. each (λ (l : List ℕ). length l ≤ getD (replicate objects 0) q 0) objects [] [] (omega arith) (omega arith) q;
+    entries = λ q i h. absurd (omega (arith, each (λ (l : List ℕ). length l ≡ 0) objects [] [] refl refl q));
   };
   seats = record {
     depths-length = refl;
     rests-length = refl;
     seats-length = refl;
     loaded-length = refl;
-    rested = λ q h. absurd (omega (arith, zeros 16 q));
-    seated = λ q h. absurd (omega (arith, zeros 16 q));
+    rested = λ q h. absurd (omega (arith, zeros objects q));
+    seated = λ q h. absurd (omega (arith, zeros objects q));
   };
-  wants = record { wants-length = refl; wanted = λ q g l h. absurd (omega (arith, zeros 512 (32 * q + g))) };
+  wants = record { wants-length = refl; wanted = λ q g l h. absurd (omega (arith, zeros (signalPlaces * objects) (signalPlaces * q + g))) };
   timers = record {
     owners-length = refl;
     alarms-length = refl;
     counters-length = refl;
     intervals-length = refl;
-    armed = λ t h. absurd (omega (arith, zeros 16 t));
+    armed = λ t h. absurd (omega (arith, zeros timers t));
   };
   in-hand = tt;
-  counted = λ b h. omega (arith, each (λ c. countOf c ≡ 0) 56 (free 0) absent refl refl b, none-there (entryOf (Block b)) 16, zeros 56 b);
+  counted = λ b h. omega (arith, each (λ c. countOf c ≡ 0) blocks (free 0) absent refl refl b, none-there (entryOf (Block b)) objects, zeros blocks b);
 }

@@ -11,6 +11,7 @@ use Rattle.ground.specs.Bools.{and-left, and-right}
 use Rattle.chart.specs.Chart.{among, classOf}
 use Rattle.chart.specs.Flat.{sound}
 use Rattle.chart.specs.Numbers.{mostStates, rowSize}
+use Rattle.mail.specs.Box.{room}
 use Rattle.machine.proofs.Parts.{unstarted-deep, mail-deep, stays-deep, objects-start, objects-load, wants-stay, timers-stay}
 use Rattle.machine.proofs.Tests.{within-low, within-high, unless-state, fault-state}
 use Rattle.machine.specs.Charts.{loadTests, load, startRow, startTests, startedAt, start}
@@ -47,8 +48,8 @@ module _ (s : State) (i : Inv s) where
     counted = i .counted;
   }
 
-  pub startedAt-keeps : (p q depth rest : ℕ) → 1 ≤ p → p ≤ objects → q < slots → 1 ≤ depth → depth ≤ 16 →
-      getD (s .loaded) q 0 ≡ 1 → depthOf s p ≡ 0 → 1 ≤ rest → rest ≤ 24 → Inv (startedAt s p q depth rest)
+  pub startedAt-keeps : (p q depth rest : ℕ) → 1 ≤ p → p ≤ objects → q < slots → 1 ≤ depth → depth ≤ room →
+      getD (s .loaded) q 0 ≡ 1 → depthOf s p ≡ 0 → 1 ≤ rest → rest ≤ mostStates → Inv (startedAt s p q depth rest)
   unfolding startedAt references
   startedAt-keeps p q depth rest low high is-slot deep most is-loaded new r1 r24 =
       let l : p - 1 < objects = omega arith in

@@ -36,12 +36,12 @@ use Rattle.machine.specs.Events.{
   read,
 }
 use Rattle.machine.specs.Inv.{Inv, references}
-use Rattle.machine.specs.Numbers.{objects}
+use Rattle.machine.specs.Numbers.{objects, signalPlaces}
 use Rattle.machine.specs.Reply.{Areas}
 use Rattle.machine.specs.State.{State, signalIn, holdsOn, started}
 
 -- SUBSCRIBE and UNSUBSCRIBE: 1 is written only for an object that is started.
-pub wanting-keeps : (s : State) (p g v : ℕ) → Inv s → 1 ≤ p → p ≤ objects → g < 32 → started s p ≡ true → Inv (wanting s p g v)
+pub wanting-keeps : (s : State) (p g v : ℕ) → Inv s → 1 ≤ p → p ≤ objects → g < signalPlaces → started s p ≡ true → Inv (wanting s p g v)
 unfolding wanting references
 wanting-keeps s p g v i low high m on = record {
   store = i .store;

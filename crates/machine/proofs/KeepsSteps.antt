@@ -9,7 +9,7 @@ use lib.Dec.{eqb}
 use lib.ListN.{length}
 use Rattle.ground.specs.Bools.{cond-pick, no-yes}
 use Rattle.chart.specs.Flat.{place}
-use Rattle.chart.specs.Numbers.{slotSize, rowSize}
+use Rattle.chart.specs.Numbers.{mostStates, slotSize, rowSize}
 use Rattle.mail.specs.Box.{boxAt, front, one}
 use Rattle.mail.specs.Entry.{entryOf}
 use Rattle.mail.specs.Laws.{highest-is, occurrences-took}
@@ -62,12 +62,12 @@ event-in-hand (Timer t g) e = e
 -- The object of a step has mail, and its front entry is an event.
 pub record Ready (s : State) : Type 0 where
   pub low : 1 ≤ toRun s
-  pub high : toRun s ≤ objects
+  pub high : toRun s ≤ length (s .boxes)
   pub mail : 0 < length (boxAt (s .boxes) (toRun s - 1))
 
 pub ready : (s : State) → eqb (toRun s) 0 ≡ false → Ready s
 ready s e =
-    let f = highest-is (s .boxes) objects in
+    let f = highest-is (s .boxes) _ in
     let l : 0 < toRun s = let ne = eqb-false (toRun s) 0 e in omega arith in
     record { low = l; high = f .most; mail = f .has-mail l }
 
@@ -92,7 +92,7 @@ coming-live s b i r e =
 pub record RowWithin (s : State) : Type 0 where
   pub slot : slotOf s (toRun s) < slots
   pub rest-low : 1 ≤ restOf s (toRun s)
-  pub rest-high : restOf s (toRun s) ≤ 24
+  pub rest-high : restOf s (toRun s) ≤ mostStates
   pub signal : IsSignal (signalOf s (coming s))
   pub end : slotSize * slotOf s (toRun s) + place (restOf s (toRun s)) (signalOf s (coming s)) + rowSize ≤ tableBytes
 
@@ -116,7 +116,7 @@ unfolding stepped stepTests references coming inHand
 stepped-keeps s tables i e t =
     let r = ready s (t .0) in
     let n = sound-next (nextRow s tables) (not-false _ (t .1 .0)) in
-    let l : toRun s - 1 < objects = omega arith in
+    let l : toRun s - 1 < objects = omega (arith, r .low, r .high, i .mail .boxes-length) in
     record {
       store = i .store;
       mail = mail-took (s .boxes) (s .objects .depths) (toRun s - 1) (i .mail) l;

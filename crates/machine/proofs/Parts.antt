@@ -7,6 +7,7 @@ use native.Mathlib.Omega.{arith}
 use borrow.Author.Tests.{eqb-true, eqb-false, not-true, not-false}
 use lib.ListN.{length, getD, set, length-set}
 use lib.Seq.{getD-set-same, getD-set-other}
+use Rattle.chart.specs.Numbers.{mostStates}
 use Rattle.ground.specs.Lists.{set-all}
 use Rattle.mail.specs.Box
 use Rattle.mail.specs.Box.{boxAt, behind, ahead, rest, pushBack, pushFront, tookFront}
@@ -17,7 +18,7 @@ use Rattle.pool.specs.Laws.{changed-length}
 use Rattle.pool.specs.Row.{at, blocks, changed}
 use Rattle.machine.proofs.Counts.{MakesNoneLive}
 use Rattle.machine.specs.Inv.{isLive, IsSignal, IsEvent, StoreOk, MailOk, ObjectsOk, WantsOk, ArmedOk, TimersOk}
-use Rattle.machine.specs.Numbers.{objects, slots, timers, mostHolds, capacity}
+use Rattle.machine.specs.Numbers.{objects, slots, timers, mostHolds, signalPlaces, capacity}
 use Rattle.machine.specs.State.{State, Events, Objects, Timers, depthOf, started}
 
 -- a list that has a number above 0 at a place has that place
@@ -101,10 +102,10 @@ module _ (boxes : List (List ℕ)) (depths : List ℕ) (q : ℕ) (ok : MailOk bo
   mail-took = mail-changed rest (omega (arith, rest-length (boxAt boxes q), ok .room q)) (all-took (λ e. IsEvent (handOf e)) boxes q (ok .entries))
 
   -- a mailbox that becomes n deep
-  pub mail-deep : (n : ℕ) → q < length depths → n ≤ 16 → getD depths q 0 ≤ n → MailOk boxes (set depths q n)
+  pub mail-deep : (n : ℕ) → q < length depths → n ≤ Box.room → getD depths q 0 ≤ n → MailOk boxes (set depths q n)
   mail-deep n m h k = record {
     boxes-length = ok .boxes-length;
-    deep = set-all (λ k (x : ℕ). x ≤ 16) depths 0 q n m (λ k ne. ok .deep k) h;
+    deep = set-all (λ k (x : ℕ). x ≤ Box.room) depths 0 q n m (λ k ne. ok .deep k) h;
     room = set-all (λ k (x : ℕ). length (boxAt boxes k) ≤ x) depths 0 q n m (λ k ne. ok .room k) (omega (arith, ok .room q));
     entries = ok .entries;
   }
@@ -118,17 +119,17 @@ stays-deep depths q n l h = set-all (λ k (x : ℕ). 0 < getD depths k 0 → 0 <
 
 -- The objects.
 module _ (o : Objects) (loaded : List ℕ) (ok : ObjectsOk o loaded) (q : ℕ) where
-  pub objects-rest : (r : ℕ) → q < objects → 1 ≤ r → r ≤ 24 → ObjectsOk (record { depths = o .depths; rests = set (o .rests) q r; seats = o .seats }) loaded
+  pub objects-rest : (r : ℕ) → q < objects → 1 ≤ r → r ≤ mostStates → ObjectsOk (record { depths = o .depths; rests = set (o .rests) q r; seats = o .seats }) loaded
   objects-rest r l low high = record {
     depths-length = ok .depths-length;
     rests-length = length-set (o .rests) q r ∙ ok .rests-length;
     seats-length = ok .seats-length;
     loaded-length = ok .loaded-length;
-    rested = set-all (λ k (x : ℕ). 0 < getD (o .depths) k 0 → (1 ≤ x) × (x ≤ 24)) (o .rests) 0 q r (omega arith) (λ k ne. ok .rested k) (λ h. (low, high));
+    rested = set-all (λ k (x : ℕ). 0 < getD (o .depths) k 0 → (1 ≤ x) × (x ≤ mostStates)) (o .rests) 0 q r (omega arith) (λ k ne. ok .rested k) (λ h. (low, high));
     seated = ok .seated;
   }
 
-  pub objects-start : (n r c : ℕ) → q < objects → 1 ≤ r → r ≤ 24 → c < slots → getD loaded c 0 ≡ 1 →
+  pub objects-start : (n r c : ℕ) → q < objects → 1 ≤ r → r ≤ mostStates → c < slots → getD loaded c 0 ≡ 1 →
       ObjectsOk (record { depths = set (o .depths) q n; rests = set (o .rests) q r; seats = set (o .seats) q c }) loaded
   objects-start n r c l low high is-slot is-loaded =
       let m : q < length (o .depths) = omega arith in
@@ -138,7 +139,7 @@ module _ (o : Objects) (loaded : List ℕ) (ok : ObjectsOk o loaded) (q : ℕ) w
         seats-length = length-set (o .seats) q c ∙ ok .seats-length;
         loaded-length = ok .loaded-length;
         rested =
-            set-all (λ k (x : ℕ). 0 < x → (1 ≤ getD (set (o .rests) q r) k 0) × (getD (set (o .rests) q r) k 0 ≤ 24)) (o .depths) 0 q n m
+            set-all (λ k (x : ℕ). 0 < x → (1 ≤ getD (set (o .rests) q r) k 0) × (getD (set (o .rests) q r) k 0 ≤ mostStates)) (o .depths) 0 q n m
             (λ k ne h. rw (getD-set-other (o .rests) q k r 0 ne) (ok .rested k h))
             (λ h. rw (getD-set-same (o .rests) q r 0 (omega arith)) (low, high));
         seated =
@@ -162,15 +163,15 @@ module _ (o : Objects) (loaded : List ℕ) (ok : ObjectsOk o loaded) (q : ℕ) w
 
 -- The subscriptions.
 module _ (wants depths : List ℕ) (ok : WantsOk wants depths) where
-  pub wants-set : (q g v : ℕ) → q < objects → g < 32 → (v ≡ 1 → 0 < getD depths q 0) → WantsOk (set wants (32 * q + g) v) depths
+  pub wants-set : (q g v : ℕ) → q < objects → g < signalPlaces → (v ≡ 1 → 0 < getD depths q 0) → WantsOk (set wants (signalPlaces * q + g) v) depths
   wants-set q g v l m h = record {
-    wants-length = length-set wants (32 * q + g) v ∙ ok .wants-length;
-    wanted = λ k j n e. is-started (32 * k + j) e k j n refl;
+    wants-length = length-set wants (signalPlaces * q + g) v ∙ ok .wants-length;
+    wanted = λ k j n e. is-started (signalPlaces * k + j) e k j n refl;
   }
     where
-      is-started : (i : ℕ) → getD (set wants (32 * q + g) v) i 0 ≡ 1 → (k j : ℕ) → j < 32 → i ≡ 32 * k + j → 0 < getD depths k 0
+      is-started : (i : ℕ) → getD (set wants (signalPlaces * q + g) v) i 0 ≡ 1 → (k j : ℕ) → j < signalPlaces → i ≡ signalPlaces * k + j → 0 < getD depths k 0
       is-started =
-          set-all (λ i (x : ℕ). x ≡ 1 → (k j : ℕ) → j < 32 → i ≡ 32 * k + j → 0 < getD depths k 0) wants 0 (32 * q + g) v (omega arith)
+          set-all (λ i (x : ℕ). x ≡ 1 → (k j : ℕ) → j < signalPlaces → i ≡ signalPlaces * k + j → 0 < getD depths k 0) wants 0 (signalPlaces * q + g) v (omega arith)
           (λ i ne e k j n p. ok .wanted k j n (rw p at e))
           (λ e k j n p. let z : k ≡ q = omega arith in rw z (h e))
 

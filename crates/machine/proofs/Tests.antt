@@ -2,10 +2,11 @@
 use mathlib.Core.Bool.{Bool, true, false, not, _&&_, _||_}
 use mathlib.Core.List.{List, [], _∷_}
 use mathlib.Core.Path.{_≡_, refl, sym}
-use Prim.Native.Nat.{ℕ, zero, suc, _≤_, _<_}
+use Prim.Native.Nat.{ℕ, zero, suc, _-_, _≤_, _<_}
 use native.Mathlib.Omega.{arith}
 use borrow.Author.Tests.{eqb-false, ltb-false, not-true}
 use lib.Dec.{eqb, ltb}
+use Rattle.chart.specs.Numbers.{firstSignal, lastSignal}
 use Rattle.ground.specs.Bools.{no-yes, and-left, and-right}
 use Rattle.machine.specs.Inv.{IsSignal}
 use Rattle.machine.specs.Numbers.{blocks, outside, noSignal, noBlock}
@@ -56,10 +57,10 @@ module _ (low high n : ℕ) where
   within-high e = ltb-false high n (or-false (ltb n low) (ltb high n) e .1)
 
 pub within-signal : (g : ℕ) → noSignal g ≡ false → IsSignal g
-within-signal g e = record { low = within-low 4 31 g e; high = within-high 4 31 g e }
+within-signal g e = record { low = within-low firstSignal lastSignal g e; high = within-high firstSignal lastSignal g e }
 
 pub within-block : (b : ℕ) → noBlock b ≡ false → b < blocks
-within-block b e = omega (arith, within-high 0 55 b e)
+within-block b e = omega (arith, within-high 0 (blocks - 1) b e)
 
 -- What a command answers: a refusal, or what it does.
 module _ (s : State) (z : Areas) (a : Answer) where

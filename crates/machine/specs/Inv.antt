@@ -5,7 +5,7 @@ use mathlib.Core.Path.{_≡_}
 use Prim.Native.Nat.{ℕ, _+_, _*_, _-_, _≤_, _<_}
 use lib.Dec.{eqb}
 use lib.ListN.{length, getD}
-use Rattle.chart.specs.Numbers.{mostStates}
+use Rattle.chart.specs.Numbers.{mostStates, firstSignal, lastSignal}
 use Rattle.mail.specs.Box as box
 use Rattle.mail.specs.Box.{boxAt, occurrences, one}
 use Rattle.mail.specs.Entry.{entryOf, handOf}
@@ -38,8 +38,8 @@ isLive absent = false
 
 -- A signal, and an event: a block, or a timer with its signal.
 pub record IsSignal (g : ℕ) : Type 0 where
-  pub low : 4 ≤ g
-  pub high : g ≤ 31
+  pub low : firstSignal ≤ g
+  pub high : g ≤ lastSignal
 
 unfoldable pub IsEvent : Hand → Type 0
 IsEvent Nothing = ⊥

@@ -4,8 +4,10 @@ use Prim.Native.Nat.{ℕ, _+_, _*_, _-_}
 use lib.Dec.{ltb}
 use Rattle.chart.specs.Numbers.{slotSize, firstSignal, lastSignal}
 use Rattle.mail.specs.Box.{room}
-pub use Rattle.mail.specs.Box.{objects}
 pub use Rattle.pool.specs.Row.{blocks}
+
+abbrev pub objects : ℕ
+objects = 16
 
 abbrev pub timers : ℕ
 timers = 16

@@ -1,7 +1,7 @@
 -- What a store does to one mailbox's ring.
 use mathlib.Core.List.{List}
 use mathlib.Core.Path.{_≡_, refl, ap}
-use Prim.Native.Nat.{ℕ, zero, suc, _+_, _*_, _-_, _<_}
+use Prim.Native.Nat.{ℕ, zero, suc, _+_, _*_, _-_, _<_, _≤_}
 use native.Mathlib.Nat.{not-suc-le-zero}
 use native.Mathlib.Numerals.{add-one}
 use native.Mathlib.Omega.{arith}
@@ -9,7 +9,7 @@ use lib.ListN.{length, getD, set}
 use lib.Seq.{getD-set-same, getD-set-other}
 use Rattle.ground.specs.Range.{tab}
 use Rattle.ground.specs.Tab.{getD-tab, tab-ext, tab-cons, tab-snoc}
-use Rattle.mail.specs.Box.{objects, room, behind, ahead, rest}
+use Rattle.mail.specs.Box.{room, behind, ahead, rest}
 use Rattle.mail.specs.Inside.{placeOf, oneBack, oneOn, entryAt, ring}
 
 -- the ring of another object has no part in it
@@ -18,7 +18,7 @@ unfolding ring
 ring-other pl q h i e k h' n ne = tab-ext _ _ n (λ j l. getD-set-other pl (placeOf q h i) (placeOf k h' j) e 0 (λ z. ne (omega arith)))
 
 module _ (pl : List ℕ) (q h n : ℕ) where
-  module _ (e : ℕ) (l : q < objects) (m : length pl ≡ objects * room) (k : n < room) where
+  module _ (e : ℕ) (l : room * q + room ≤ length pl) (k : n < room) where
     pub ring-back : ring (set pl (placeOf q h n) e) q h (n + 1) ≡ behind e (ring pl q h n)
     unfolding ring behind
     ring-back =

@@ -3,38 +3,39 @@ use mathlib.Core.List.{List, []}
 use mathlib.Core.Path.{_≡_, refl, sym, ap, _∙_}
 use Prim.Native.Nat.{ℕ, _+_, _-_, _<_}
 use native.Mathlib.Omega.{arith}
-use lib.ListN.{getD, set, length-set}
+use lib.ListN.{length, getD, set, length-set}
 use lib.Seq.{getD-set-same, getD-set-other}
 use Rattle.ground.specs.Tab.{getD-tab, tab-set}
-use Rattle.mail.specs.Box.{objects, room, boxAt, front, changed, behind, ahead, rest, pushBack, pushFront, tookFront}
+use Rattle.mail.specs.Box.{room, boxAt, front, changed, behind, ahead, rest, pushBack, pushFront, tookFront}
 use Rattle.mail.specs.Inside.{placeOf, oneBack, oneOn, entryAt, boxOf, boxes, Mail, Holds}
 use Rattle.mail.proofs.Ring.{ring-other, ring-back, ring-front, ring-first, ring-rest}
 
-module _ (pl hs cs : List ℕ) (q : ℕ) (l : q < objects) where
+module _ (pl hs cs : List ℕ) (q : ℕ) (l : q < length cs) where
   box-at : boxAt (boxes pl hs cs) q ≡ boxOf pl hs cs q
   unfolding boxes
-  box-at = getD-tab (boxOf pl hs cs) objects q [] l
+  box-at = getD-tab (boxOf pl hs cs) (length cs) q [] l
 
   pub first-entry : 0 < getD cs q 0 → entryAt pl q (getD hs q 0) 0 ≡ front (boxes pl hs cs) q
   unfolding boxOf
   first-entry k = sym (ap (λ b. getD b 0 0) box-at ∙ ring-first pl q (getD hs q 0) (getD cs q 0) k)
 
-  -- one mailbox is another, the rest are as they were
-  stored : (f : List ℕ → List ℕ) (pl' hs' cs' : List ℕ) → boxOf pl' hs' cs' q ≡ f (boxOf pl hs cs q) →
-      ((k : ℕ) → (k ≡ q → ⊥) → boxOf pl' hs' cs' k ≡ boxOf pl hs cs k) → boxes pl' hs' cs' ≡ changed f (boxes pl hs cs) q
+  -- one mailbox is another, with n entries, the rest are as they were
+  stored : (f : List ℕ → List ℕ) (pl' hs' : List ℕ) (n : ℕ) → boxOf pl' hs' (set cs q n) q ≡ f (boxOf pl hs cs q) →
+      ((k : ℕ) → (k ≡ q → ⊥) → boxOf pl' hs' (set cs q n) k ≡ boxOf pl hs cs k) → boxes pl' hs' (set cs q n) ≡ changed f (boxes pl hs cs) q
   unfolding boxes changed
-  stored f pl' hs' cs' here there =
-      tab-set (boxOf pl hs cs) (boxOf pl' hs' cs') objects q (f (boxAt (boxes pl hs cs) q)) l (here ∙ ap f (sym box-at)) (λ k j ne. there k ne)
+  stored f pl' hs' n here there =
+      rw length-set
+      (tab-set (boxOf pl hs cs) (boxOf pl' hs' (set cs q n)) (length cs) q (f (boxAt (boxes pl hs cs) q)) l (here ∙ ap f (sym box-at)) (λ k j ne. there k ne))
 
   module _ (m : Mail pl hs cs) where
     pub pushed-back : (e : ℕ) → getD cs q 0 < room →
         Holds (set pl (placeOf q (getD hs q 0) (getD cs q 0)) e) hs (set cs q (getD cs q 0 + 1)) (pushBack (boxes pl hs cs) q e)
     unfolding boxOf
     pushed-back e k = record {
-      mail = record { places = simp length-set (m .places); heads = m .heads; counts = simp length-set (m .counts) };
+      mail = record { places = simp length-set (m .places); heads = simp length-set (m .heads) };
       are =
           stored (behind e) _ hs _
-          (rw (getD-set-same cs q (getD cs q 0 + 1) 0 (omega arith)) (ring-back pl q (getD hs q 0) (getD cs q 0) e l (m .places) k))
+          (rw (getD-set-same cs q (getD cs q 0 + 1) 0 (omega arith)) (ring-back pl q (getD hs q 0) (getD cs q 0) e (omega (arith, m .places)) k))
           (λ k ne. rw (getD-set-other cs q k _ 0 ne) (ring-other pl q _ _ e k _ _ ne));
     }
 
@@ -42,11 +43,11 @@ module _ (pl hs cs : List ℕ) (q : ℕ) (l : q < objects) where
         Holds (set pl (placeOf q (oneBack (getD hs q 0)) 0) e) (set hs q (oneBack (getD hs q 0))) (set cs q (getD cs q 0 + 1)) (pushFront (boxes pl hs cs) q e)
     unfolding boxOf
     pushed-front e k = record {
-      mail = record { places = simp length-set (m .places); heads = simp length-set (m .heads); counts = simp length-set (m .counts) };
+      mail = record { places = simp length-set (m .places); heads = simp length-set (m .heads) };
       are =
           stored (ahead e) _ _ _
           (rw (getD-set-same hs q (oneBack (getD hs q 0)) 0 (omega arith), getD-set-same cs q (getD cs q 0 + 1) 0 (omega arith))
-          (ring-front pl q (getD hs q 0) (getD cs q 0) e l (m .places) k))
+          (ring-front pl q (getD hs q 0) (getD cs q 0) e (omega (arith, m .places)) k))
           (λ k ne. rw (getD-set-other hs q k _ 0 ne, getD-set-other cs q k _ 0 ne) (ring-other pl q _ _ e k _ _ ne));
     }
 
@@ -54,7 +55,7 @@ module _ (pl hs cs : List ℕ) (q : ℕ) (l : q < objects) where
         Holds pl (set hs q (oneOn (getD hs q 0))) (set cs q (getD cs q 0 - 1)) (tookFront (boxes pl hs cs) q)
     unfolding boxOf
     took-front k = record {
-      mail = record { places = m .places; heads = simp length-set (m .heads); counts = simp length-set (m .counts) };
+      mail = record { places = simp length-set (m .places); heads = simp length-set (m .heads) };
       are =
           stored rest pl _ _
           (rw (getD-set-same hs q (oneOn (getD hs q 0)) 0 (omega arith), getD-set-same cs q (getD cs q 0 - 1) 0 (omega arith))

@@ -5,9 +5,6 @@ use Prim.Native.Nat.{ℕ, zero, suc, _+_}
 use lib.Dec.{eqb}
 use lib.ListN.{length, getD, set, drop}
 
-abbrev pub objects : ℕ
-objects = 16
-
 -- The most entries that one mailbox holds.
 abbrev pub room : ℕ
 room = 16
@@ -48,7 +45,7 @@ highestOf bs zero = 0
 highestOf bs (suc n) = cond (eqb (length (boxAt bs n)) 0) (highestOf bs n) (suc n)
 
 abbrev pub highest : List (List ℕ) → ℕ
-highest bs = highestOf bs objects
+highest bs = highestOf bs (length bs)
 
 -- What f counts in each mailbox, in all.
 unfoldable pub total : (List ℕ → ℕ) → List (List ℕ) → ℕ

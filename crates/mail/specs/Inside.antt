@@ -1,10 +1,10 @@
 -- How three arrays hold the mailboxes. For this crate's proofs alone: no other crate names this file.
 use mathlib.Core.List.{List}
 use mathlib.Core.Path.{_≡_}
-use Prim.Native.Nat.{ℕ, _+_, _*_, _%_}
+use Prim.Native.Nat.{ℕ, _+_, _*_, _-_, _%_}
 use lib.ListN.{length, getD}
 use Rattle.ground.specs.Range.{tab}
-use Rattle.mail.specs.Box.{objects, room}
+use Rattle.mail.specs.Box.{room}
 
 -- Object q has the places from room * q on. Entry i from the front stands i places on from the head, round.
 abbrev pub placeOf : ℕ → ℕ → ℕ → ℕ
@@ -12,7 +12,7 @@ placeOf q h i = room * q + (h + i) % room
 
 -- From one place of a ring to the one before it, and to the next.
 abbrev pub oneBack : ℕ → ℕ
-oneBack h = (h + 15) % room
+oneBack h = (h + (room - 1)) % room
 
 abbrev pub oneOn : ℕ → ℕ
 oneOn h = (h + 1) % room
@@ -27,13 +27,12 @@ unfoldable pub boxOf : List ℕ → List ℕ → List ℕ → ℕ → List ℕ
 boxOf places heads counts q = ring places q (getD heads q 0) (getD counts q 0)
 
 unfoldable pub boxes : List ℕ → List ℕ → List ℕ → List (List ℕ)
-boxes places heads counts = tab (boxOf places heads counts) objects
+boxes places heads counts = tab (boxOf places heads counts) (length counts)
 
--- The arrays have their lengths.
+-- There are as many mailboxes as counts; the other arrays have their lengths.
 pub record Mail (pl hs cs : List ℕ) : Type 0 where
-  pub places : length pl ≡ objects * room
-  pub heads : length hs ≡ objects
-  pub counts : length cs ≡ objects
+  pub places : length pl ≡ room * length cs
+  pub heads : length hs ≡ length cs
 
 -- They hold the mailboxes bs.
 pub record Holds (pl hs cs : List ℕ) (bs : List (List ℕ)) : Type 0 where

@@ -14,7 +14,7 @@ use lib.ListN.{length, getD, set, length-set, length-append, length-drop, List·
 use lib.Seq.{getD-set-same, getD-set-other, getD-append-seam, set-out}
 use Rattle.ground.specs.Bools.{cond-pick}
 use Rattle.ground.specs.Lists.{set-all}
-use Rattle.mail.specs.Box.{objects, boxAt, front, changed, behind, ahead, rest, pushBack, pushFront, tookFront}
+use Rattle.mail.specs.Box.{boxAt, front, changed, behind, ahead, rest, pushBack, pushFront, tookFront}
 use Rattle.mail.specs.Box.{highestOf, highest, total, one, timesIn, queued, occurrences}
 use Rattle.mail.specs.Entry.{firstTimer, signals, entryOf, handOf}
 use Rattle.mail.specs.declared.Hand.the-variants.{Block, Timer}
@@ -146,11 +146,11 @@ module _ (bs : List (List ℕ)) where
   occurrences-most e m h = let l = occurrences-queued e in let k = queued-most m h in omega arith
 
   -- where no object has mail nothing is queued
-  pub highest-none : length bs ≤ objects → highest bs ≡ 0 → queued bs ≡ 0
-  highest-none l z = let k = queued-most 0 (λ q. none q (decLt q objects)) in omega arith
+  pub highest-none : highest bs ≡ 0 → queued bs ≡ 0
+  highest-none z = let k = queued-most 0 (λ q. none q (decLt q (length bs))) in omega arith
     where
-      none : (q : ℕ) → Dec (q < objects) → length (boxAt bs q) ≤ 0
-      none q (yes h) = omega (arith, highest-is bs objects .none-above q (omega arith) h)
+      none : (q : ℕ) → Dec (q < length bs) → length (boxAt bs q) ≤ 0
+      none q (yes h) = omega (arith, highest-is bs (length bs) .none-above q (omega arith) h)
       none q (no h) = let e : boxAt bs q ≡ [] = List·getD-eq-default bs [] (omega arith) in rw e (omega arith)
 
 -- P holds of each entry of one mailbox, of all

@@ -1,15 +1,14 @@
-// The mailboxes: for each of 16 objects a ring of 16 places, all in one array. Objects are counted from 0 here. What stands above
-// relies on the promises alone, which speak of `boxes places heads counts`, the lists of entries that the three arrays hold.
+// The mailboxes: for each object, of any number of them, a ring of 16 places, all in one array. Objects are counted from 0 here. What
+// stands above relies on the promises alone, which speak of `boxes places heads counts`, the lists of entries that the three arrays hold.
 ghost use mathlib.Core.List.{List};
 ghost use mathlib.Core.Path.{_≡_};
-ghost use Prim.Native.Nat.{ℕ, _+_, _-_, _<_, _≤_};
+ghost use Prim.Native.Nat.{ℕ, _+_, _*_, _-_, _^_, _<_, _≤_};
 ghost use lib.ListN.{getD, length, set};
-ghost use Rattle.mail.specs.Box.{pushBack, pushFront, tookFront, front, highest, objects, room};
+ghost use Rattle.mail.specs.Box.{pushBack, pushFront, tookFront, front, highest, room};
 ghost use Rattle.mail.specs.Entry.{entryOf, handOf};
 ghost use Rattle.mail.specs.Inside.{placeOf, boxes, Mail, Holds};
+use ground::byte_at;
 use ground::wide;
-use numbers::ALL_PLACES;
-use numbers::OBJECTS;
 use numbers::PLACES;
 use numbers::SIGNAL_PLACES;
 
@@ -30,23 +29,17 @@ pub enum Hand {
     Timer(u8, u8),
 }
 
-// The place of entry i, counted from the front, in the mailbox of object q with its head at h.
+// The place of entry i, counted from the front, in the mailbox of object q with its head at h. Every place of that ring is an index.
 fn place(q: usize, h: usize, i: usize) -> usize
-    requires { ⌜ (q < objects) × (h < 256) × (i < 256) ⌝ }
-    ensures { λ r. ⌜ (r ≡ placeOf q h i) × (r < 256) ⌝ }
+    requires { ⌜ (room * q + room < 2 ^ 64) × (h < 256) × (i < 256) ⌝ }
+    ensures { λ r. ⌜ r ≡ placeOf q h i ⌝ }
 {
     PLACES * q + (h + i) % PLACES
 }
 
-pub fn push_back(
-    places: &mut [u16; ALL_PLACES],
-    heads: &[u8; OBJECTS],
-    counts: &mut [u8; OBJECTS],
-    q: usize,
-    e: u16,
-)
+pub fn push_back(places: &mut [u16], heads: &[u8], counts: &mut [u8], q: usize, e: u16)
     requires { ⌜ Mail (now places) (now heads) (now counts) ⌝ }
-    requires { ⌜ (q < objects) × (getD (now counts) q 0 < room) ⌝ }
+    requires { ⌜ (q < length (now counts)) × (getD (now counts) q 0 < room) ⌝ }
     ensures { λ r. ⌜ Holds (now (places .exit)) (now (heads .entry)) (now (counts .exit))
         (pushBack (boxes (now (places .entry)) (now (heads .entry)) (now (counts .entry))) q e) ⌝ }
     ensures { λ r. ⌜ now (counts .exit) ≡ set (now (counts .entry)) q (getD (now (counts .entry)) q 0 + 1) ⌝ }
@@ -57,15 +50,9 @@ pub fn push_back(
     counts[q] = (n + 1) as u8;
 }
 
-pub fn push_front(
-    places: &mut [u16; ALL_PLACES],
-    heads: &mut [u8; OBJECTS],
-    counts: &mut [u8; OBJECTS],
-    q: usize,
-    e: u16,
-)
+pub fn push_front(places: &mut [u16], heads: &mut [u8], counts: &mut [u8], q: usize, e: u16)
     requires { ⌜ Mail (now places) (now heads) (now counts) ⌝ }
-    requires { ⌜ (q < objects) × (getD (now counts) q 0 < room) ⌝ }
+    requires { ⌜ (q < length (now counts)) × (getD (now counts) q 0 < room) ⌝ }
     ensures { λ r. ⌜ Holds (now (places .exit)) (now (heads .exit)) (now (counts .exit))
         (pushFront (boxes (now (places .entry)) (now (heads .entry)) (now (counts .entry))) q e) ⌝ }
     ensures { λ r. ⌜ now (counts .exit) ≡ set (now (counts .entry)) q (getD (now (counts .entry)) q 0 + 1) ⌝ }
@@ -78,14 +65,9 @@ pub fn push_front(
 }
 
 // The front entry, which leaves.
-pub fn take_front(
-    places: &[u16; ALL_PLACES],
-    heads: &mut [u8; OBJECTS],
-    counts: &mut [u8; OBJECTS],
-    q: usize,
-) -> u16
+pub fn take_front(places: &[u16], heads: &mut [u8], counts: &mut [u8], q: usize) -> u16
     requires { ⌜ Mail (now places) (now heads) (now counts) ⌝ }
-    requires { ⌜ (q < objects) × (0 < getD (now counts) q 0) ⌝ }
+    requires { ⌜ (q < length (now counts)) × (0 < getD (now counts) q 0) ⌝ }
     ensures { λ r. ⌜ Holds (now (places .entry)) (now (heads .exit)) (now (counts .exit))
         (tookFront (boxes (now (places .entry)) (now (heads .entry)) (now (counts .entry))) q) ⌝ }
     ensures { λ r. ⌜ r ≡ front (boxes (now (places .entry)) (now (heads .entry)) (now (counts .entry))) q ⌝ }
@@ -100,24 +82,20 @@ pub fn take_front(
 }
 
 // The front entry, which stays.
-pub fn front(
-    places: &[u16; ALL_PLACES],
-    heads: &[u8; OBJECTS],
-    counts: &[u8; OBJECTS],
-    q: usize,
-) -> u16
-    requires { ⌜ (q < objects) × (0 < getD (now counts) q 0) ⌝ }
+pub fn front(places: &[u16], heads: &[u8], counts: &[u8], q: usize) -> u16
+    requires { ⌜ Mail (now places) (now heads) (now counts) ⌝ }
+    requires { ⌜ (q < length (now counts)) × (0 < getD (now counts) q 0) ⌝ }
     ensures { λ r. ⌜ r ≡ front (boxes (now (places .entry)) (now (heads .entry)) (now (counts .entry))) q ⌝ }
 {
     places[place(q, wide(heads[q]), 0)]
 }
 
 // The highest object with mail, counted from 1; 0 where nothing is queued. The counts alone say it.
-pub fn highest(counts: &[u8; OBJECTS]) -> usize
+pub fn highest(counts: &[u8]) -> usize
     ensures { λ r. ⌜ ((places heads : List ℕ) → r ≡ highest (boxes places heads (now (counts .entry)))) ⌝ }
-    ensures { λ r. ⌜ r ≤ objects ⌝ }
+    ensures { λ r. ⌜ r ≤ length (now (counts .entry)) ⌝ }
 {
-    let mut p: usize = OBJECTS;
+    let mut p = counts.len();
     while 0 < p {
         if counts[p - 1] != 0 {
             return p;
@@ -128,17 +106,13 @@ pub fn highest(counts: &[u8; OBJECTS]) -> usize
 }
 
 // What an array has of object p, counted from 1; 0 where there is no such object.
-pub fn of_object(a: &[u8; OBJECTS], p: usize) -> usize
-    requires { ⌜ length (now a) ≡ objects ⌝ }
+pub fn of_object(a: &[u8], p: usize) -> usize
     ensures { λ r. ⌜ (r ≡ getD (now (a .entry)) (p - 1) 0) × (r < 256) ⌝ }
 {
     if p == 0 {
-        return wide(a[0]);
+        return wide(byte_at(a, 0));
     }
-    if OBJECTS < p {
-        return 0;
-    }
-    wide(a[p - 1])
+    wide(byte_at(a, p - 1))
 }
 
 // The free places of a mailbox.

@@ -1,10 +1,10 @@
 // PUBLISH over arrays that the kernel lends: who receives an event, whether one of these has no place, and the posts.
-// Each goes through the objects from 16 down to 1.
+// Each goes through the objects from the highest down.
 ghost use mathlib.Core.Bool.{cond, false, true};
 ghost use mathlib.Core.Path.{_≡_};
 ghost use Prim.Native.Nat.{ℕ, _-_, _<_, _≤_};
 ghost use lib.Dec.{eqb};
-ghost use lib.ListN.{getD, length};
+ghost use lib.ListN.{getD};
 ghost use Rattle.machine.specs.Events as machine;
 ghost use Rattle.machine.specs.Events.{fullReceiver, posted, published};
 ghost use Rattle.machine.specs.Numbers.{blocks, objects};
@@ -52,7 +52,7 @@ fn is_full(
     p: usize,
     g: usize,
 ) -> bool
-    requires { ⌜ (1 ≤ p) × (p ≤ objects) × (g < 256) × (length (now depths) ≡ objects) × (length (now counts) ≡ objects) ⌝ }
+    requires { ⌜ (1 ≤ p) × (p ≤ objects) × (g < 256) ⌝ }
     ensures { λ r. ⌜ r ≡ cond (eqb (getD (now (wants .entry)) (wantPlace p g) 0) 1) (eqb (getD (now (depths .entry)) (p - 1) 0 - getD (now (counts .entry)) (p - 1) 0) 0) false ⌝ }
 {
     if !subscribes(wants, p, g) {
@@ -68,7 +68,7 @@ pub fn any_full(
     counts: &[u8; OBJECTS],
     g: usize,
 ) -> bool
-    requires { ⌜ (g < 256) × (length (now depths) ≡ objects) × (length (now counts) ≡ objects) ⌝ }
+    requires { ⌜ g < 256 ⌝ }
     ensures { λ r. ⌜ ((s : State) → Reads s (now (wants .entry)) (now (depths .entry)) (now (counts .entry)) → r ≡ fullReceiver s g objects) ⌝ }
 {
     let mut p = OBJECTS;

@@ -14,7 +14,7 @@ use Rattle.chart.proofs.Agree.{step-sound}
 use Rattle.chart.proofs.Theorems.{start-row, step-leads, step-row}
 use Rattle.chart.specs.Chart.{classOf, among, isSignal, states}
 use Rattle.chart.specs.Flat.{place, rowAt, rowOf, slotBytes, sound}
-use Rattle.chart.specs.Numbers.{slotSize, rowSize}
+use Rattle.chart.specs.Numbers.{mostStates, firstSignal, lastSignal, slotSize, rowSize}
 use Rattle.chart.specs.Step
 use Rattle.chart.specs.Step.{step}
 use Rattle.mail.specs.declared.Hand.the-variants.{Nothing}
@@ -51,10 +51,10 @@ module _ (tables : List ℕ) (q : ℕ) (d : List ℕ) (holds : take slotSize (dr
   unfolding startRow
   start-there good = ap (rowAt tables) (sym (add-zero (slotSize * q))) ∙ slot-part 0 (omega arith) ∙ start-row d good
 
-  pub step-there : classOf d ≡ 0 → (x g : ℕ) → among (states d) x ≡ true → x ≤ 24 → IsSignal g → rowAt tables (slotSize * q + place x g) ≡ rowOf (step d x g)
+  pub step-there : classOf d ≡ 0 → (x g : ℕ) → among (states d) x ≡ true → x ≤ mostStates → IsSignal g → rowAt tables (slotSize * q + place x g) ≡ rowOf (step d x g)
   unfolding place isSignal
   step-there good x g is-state few sig =
-      slot-part (place x g) (omega (arith, sig .low, sig .high)) ∙ step-row d good x is-state g (rw (le-leb 4 g (sig .low), le-leb g 31 (sig .high)) refl)
+      slot-part (place x g) (omega (arith, sig .low, sig .high)) ∙ step-row d good x is-state g (rw (le-leb firstSignal g (sig .low), le-leb g lastSignal (sig .high)) refl)
 
 pub row-next : (a : Step.Answer) → getD (rowOf a) 0 0 ≡ a .next
 unfolding rowOf
@@ -91,7 +91,7 @@ module _ (s : State) (tables : List ℕ) (charts : ℕ → List ℕ) (i : Inv s)
     table = c .table;
     rests =
         set-all (λ k (x : ℕ). 0 < getD (s .objects .depths) k 0 → among (states (charts (getD (s .objects .seats) k 0))) x ≡ true) (s .objects .rests) 0 (toRun s - 1) _
-        (omega (arith, r .low, r .high, i .seats .rests-length))
+        (omega (arith, r .low, r .high, i .mail .boxes-length, i .seats .rests-length))
         (λ k ne. c .rests k)
         (λ l. rw (next-row, row-next stepTaken) (step-leads (charts (slotOf s (toRun s))) good (restOf s (toRun s)) (c .rests (toRun s - 1) deep) (signalOf s (coming s))));
   }

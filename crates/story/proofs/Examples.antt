@@ -31,7 +31,7 @@ use Rattle.machine.specs.Inv.{references, isLive}
 use Rattle.machine.specs.Machine
 use Rattle.machine.specs.Machine.{answerTo}
 use Rattle.machine.specs.Numbers
-use Rattle.machine.specs.Numbers.{objects, recordBytes, payloadBytes, tableBytes, logBytes}
+use Rattle.machine.specs.Numbers.{objects, recordBytes, replyBytes, payloadBytes, tableBytes, logBytes}
 use Rattle.machine.specs.Reply
 use Rattle.machine.specs.Reply.{STALE, TABLE, Areas, Answer}
 use Rattle.machine.specs.State
@@ -116,7 +116,7 @@ asks =
     ∷ []
 
 abbrev sees : List ℕ → Cell → ℕ → ℕ → Seen
-sees r c n x = record { reply = padded 24 r; cell = c; refers = n; rest = x; on = not (eqb x 0) }
+sees r c n x = record { reply = padded replyBytes r; cell = c; refers = n; rest = x; on = not (eqb x 0) }
 
 expected : List Seen
 expected =

@@ -105,7 +105,7 @@ module _ (h : Story) (c : Call) (first : List ℕ) (only : OnlyKernel tableArea 
       let r = next-ready h c did in
       ap (λ (p : ℕ). restOf (kernel (then h c)) p) (w .object)
       ∙ ap (λ s. restOf s (toRun (kernel h))) (w .state)
-      ∙ getD-set-same (s .objects .rests) (toRun s - 1) _ 0 (omega (arith, kept h .seats .rests-length, r .low, r .high))
+      ∙ getD-set-same (s .objects .rests) (toRun s - 1) _ 0 (omega (arith, kept h .mail .boxes-length, kept h .seats .rests-length, r .low, r .high))
       ∙ ap (λ (r : List ℕ). getD r 0 0) row
       ∙ row-next takenStep
       ∙ ap (λ a. a .next) (sym is-nested)

@@ -110,14 +110,14 @@ at-most n m l = go (eqb n m) refl
     go false e = let q = eqb-false n m e in lt-leb m n (omega arith)
 
 -- nothing queued
-pub idle-is : (bs : List (List ℕ)) → length bs ≡ objects → eqb (highest bs) 0 ≡ eqb (queued bs) 0
-idle-is bs l = go (eqb (highest bs) 0) refl
+pub idle-is : (bs : List (List ℕ)) → eqb (highest bs) 0 ≡ eqb (queued bs) 0
+idle-is bs = go (eqb (highest bs) 0) refl
   where
     go : (t : Bool) → eqb (highest bs) 0 ≡ t → t ≡ eqb (queued bs) 0
-    go true e = sym (eq-eqb (queued bs) 0 (highest-none bs (omega arith) (eqb-true (highest bs) 0 e)))
+    go true e = sym (eq-eqb (queued bs) 0 (highest-none bs (eqb-true (highest bs) 0 e)))
     go false e =
         let ne = eqb-false (highest bs) 0 e in
-        let m = highest-is bs objects .has-mail (omega arith) in
+        let m = highest-is bs (length bs) .has-mail (omega arith) in
         sym (ne-eqb (queued bs) 0 (λ q. omega (arith, queued-took bs (highest bs - 1) m)))
 
 -- ## The number of an answer
@@ -184,7 +184,7 @@ module _ (s : State) (r d : List ℕ) (z : Areas) (long : eqb (length r) recordB
     hold = λ e. rw e (unless-number s z _ _ refl ∙ rw (at-most (holdsOn s (arg r 1)) mostHolds (i .store .held (arg r 1))) (simp (long, or-false, cond-or)));
     release = λ e. rw e (unless-number s z _ _ refl ∙ simp (long, or-false, cond-or));
     dropEvent = λ e. rw e (unless-number s z _ _ refl ∙ simp (long, or-false, cond-or));
-    next = λ e. rw e (unless-number s z _ _ refl ∙ rw (idle-is (s .boxes) (i .mail .boxes-length)) (simp (long, or-false, cond-or)));
+    next = λ e. rw e (unless-number s z _ _ refl ∙ rw (idle-is (s .boxes)) (simp (long, or-false, cond-or)));
     end = λ e. rw e (unless-number s z _ _ refl ∙ simp (long, cond-or));
     arm = λ e. rw e (unless-number s z _ _ refl ∙ simp (long, or-false, cond-or));
     disarm = λ e. rw e (unless-number s z _ _ refl ∙ simp (long, or-false, cond-or));

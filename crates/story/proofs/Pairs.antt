@@ -192,7 +192,7 @@ module _ (h : Story) (c : Call) (did : Did DRAIN h c) where
       let there : (i : ℕ) → i ≤ m → kernel (steps h c i) ≡ onward (c .areas .tables) i s = λ i l. here i (λ j k. w .each j (omega arith)) in
       let after : answerIn h c .state ≡ onward (c .areas .tables) m s = x .state ∙ w .state in
       let v = x .value₂ in
-      let q = idle-is (answerIn h c .state .boxes) (kept (then h c) .mail .boxes-length) in
+      let q = idle-is (answerIn h c .state .boxes) in
       record {
         fall = rw (x .state) (omega (arith, drain-falls budget 0 s (c .areas .tables) (c .areas .log), w .steps));
         state = after ∙ sym (there m (omega arith));

@@ -20,7 +20,7 @@ use Rattle.machine.proofs.Parts.{started-deep}
 use Rattle.machine.proofs.Tests.{or-false, within-high}
 use Rattle.machine.specs.Charts.{tablesBad, slotUsed, loadTests, load, startRow, startedAt}
 use Rattle.machine.specs.Machine.{spoilt, choose, command, answerTo}
-use Rattle.machine.specs.Numbers.{objects, slots, tableBytes, outside}
+use Rattle.machine.specs.Numbers.{objects, slots, tableBytes, noObject, noDepth, noSlot, outside}
 use Rattle.machine.specs.Reply.{Areas, TABLE, lowest, unless, unlessFault, replyOf, bytes}
 use Rattle.machine.specs.State.{State, depthOf, restOf, slotOf, started, isLoaded, isOpen}
 use Rattle.machine.specs.Steps.{toRun, nextRow, stepped}
@@ -128,9 +128,9 @@ module _ (s : State) (r d : List ℕ) (z : Areas) where
   unfolding line tableOf Table.oneOf Table.otherLength
   start-area e = or-false _ _ e .0
 
-  start-slot : line (tableOf 2 s r d z) false 3 ≡ false → outside 0 3 (getD r 2 0) ≡ false
+  start-slot : line (tableOf 2 s r d z) false 3 ≡ false → noSlot (getD r 2 0) ≡ false
   unfolding line tableOf Table.oneOf Table.arguments Table.someOutside Table.isOutside
-  start-slot e = second (outside 1 16 (getD r 1 0)) (outside 0 3 (getD r 2 0)) (outside 1 16 (getD r 3 0) || false) e
+  start-slot e = second (noObject (getD r 1 0)) (noSlot (getD r 2 0)) (noDepth (getD r 3 0) || false) e
     where
       second : (a b c : Bool) → ((a || (b || c)) || false) ≡ false → b ≡ false
       second a b c e = or-false b c (or-false a (b || c) (or-false (a || (b || c)) false e .0) .1) .0
@@ -175,7 +175,7 @@ module _ (h : Story) (c : Call) (first : List ℕ) (only : OnlyKernel tableArea 
       let q = argument c 2 in
       let whole : length (c .areas .tables) ≡ tableBytes = eqb-true _ tableBytes (not-false _ (start-area s (c .command) (c .chart) (c .areas) (rw e at (lower 2 (omega arith))))) in
       let x = charted-lent h c first only whole in
-      let l : q < slots = omega (arith, within-high 0 3 q (start-slot s (c .command) (c .chart) (c .areas) (rw e at (lower 3 (omega arith))))) in
+      let l : q < slots = omega (arith, within-high 0 (slots - 1) q (start-slot s (c .command) (c .chart) (c .areas) (rw e at (lower 3 (omega arith))))) in
       let on : getD (s .loaded) q 0 ≡ 1 = eqb-true _ 1 (start-loaded s (c .command) (c .chart) (c .areas) (rw e at (lower 8 (omega arith)))) in
       let row = start-there (c .areas .tables) q (chartIn h q) (x .table q l on) (x .good q l on) in
       no-yes (sym (start-unsound s (c .command) (c .chart) (c .areas) (rw e at this)) ∙ ap sound row ∙ start-sound (chartIn h q) (x .good q l on)))
@@ -183,7 +183,7 @@ module _ (h : Story) (c : Call) (first : List ℕ) (only : OnlyKernel tableArea 
       ⊎-elim (λ e.
       let whole : length (c .areas .tables) ≡ tableBytes = eqb-true _ tableBytes (not-false _ (next-area s (c .command) (c .chart) (c .areas) (rw e at (lower 2 (omega arith))))) in
       let x = charted-lent h c first only whole in
-      let r = ready s (idle-is (s .boxes) (kept h .mail .boxes-length) ∙ next-busy s (c .command) (c .chart) (c .areas) (rw e at (lower 6 (omega arith)))) in
+      let r = ready s (idle-is (s .boxes) ∙ next-busy s (c .command) (c .chart) (c .areas) (rw e at (lower 6 (omega arith)))) in
       no-yes (sym (next-unsound s (c .command) (c .chart) (c .areas) (rw e at this)) ∙ next-sound s (c .areas .tables) (chartIn h) (kept h) r x))
       (λ n12. no-yes (sym (table-command s (c .command) (c .chart) (c .areas) (commandOf c) n2 n12) ∙ this))
       (eq-or (commandOf c) NEXT))

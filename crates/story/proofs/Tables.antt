@@ -291,6 +291,6 @@ pub charted : (h : Story) (first : List ℕ) → OnlyKernel tableArea first h �
 charted fresh first only = unfold kernel in record {
   good = λ q l e. absurd (omega (arith, zeros-at 4 q));
   table = λ q l e. absurd (omega (arith, zeros-at 4 q));
-  rests = λ k l. absurd (omega (arith, zeros-at 16 k));
+  rests = λ k l. absurd (omega (arith, zeros-at objects k));
 }
 charted (then h c) first only = each-next h c first only (charted h first (before tableArea first h c only))

@@ -9,7 +9,7 @@ use Rattle.mail.specs.Box.{rest}
 use Rattle.mail.specs.Laws.{highest-is, changed-here, changed-other}
 use Rattle.machine.proofs.KeepsSteps.{Ready, ready}
 use Rattle.machine.proofs.Tests.{none-holds}
-use Rattle.machine.specs.Numbers.{objects, tableBytes}
+use Rattle.machine.specs.Numbers.{tableBytes}
 use Rattle.machine.specs.Reply.{Areas, Answer, answer, replyOf, bytes}
 use Rattle.machine.specs.State.{State}
 use Rattle.machine.specs.Steps.{toRun, coming, handle₁, handle₂, stepTests, nextTests, stepped, nextSays}
@@ -62,11 +62,11 @@ takes h c did =
     let e = x .state in
     record {
       low = r .low;
-      high = r .high;
+      high = omega (arith, r .high, kept h .mail .boxes-length);
       mail = r .mail;
-      highest = λ q l m. empty _ (highest-is (s .boxes) objects .none-above (q - 1) (omega arith) (omega arith));
+      highest = λ q l m. empty _ (highest-is (s .boxes) (length (s .boxes)) .none-above (q - 1) (omega arith) (omega (arith, kept h .mail .boxes-length)));
       in-hand = x .hand;
-      left = rw e (changed-here rest (s .boxes) (toRun s - 1) (omega (arith, r .low, r .high, kept h .mail .boxes-length)));
+      left = rw e (changed-here rest (s .boxes) (toRun s - 1) (omega (arith, r .low, r .high)));
       others = λ q l ne. rw e (changed-other rest (s .boxes) (toRun s - 1) (q - 1) (λ n. ne (omega (arith, r .low))));
       handle = (rw (x .hand) (x .value₁), rw (x .hand) (x .value₂));
     }

@@ -7,7 +7,9 @@ use borrow.Author.Tests.{eq-eqb, ne-eqb, lt-ltb, le-ltb}
 use lib.ListN.{getD, set}
 use Rattle.machine.proofs.Parts.{timers-count}
 use Rattle.machine.specs.Clocks.{Ticked, ticked, tickFrom, tickTimer, fire, withCounter}
+use Rattle.machine.specs.Numbers.{objects, timers}
 use Rattle.machine.specs.State.{State}
+use Rattle.mail.specs.Box
 use Rattle.mail.specs.Box.{pushBack}
 use Rattle.mail.specs.Entry.{entryOf}
 use Rattle.mail.specs.View.{Holds, Mail, boxes, queued-in}
@@ -35,7 +37,7 @@ module _ (places heads counts counters depths owners alarms intervals : List ℕ
   abbrev room : ℕ
   room = getD depths (owner - 1) 0 - queued
 
-  module _ (ready : Ready places heads counts counters depths owners alarms intervals) (few : (t < 16) × (fired ≤ t) × (late ≤ t)) where
+  module _ (ready : Ready places heads counts counters depths owners alarms intervals) (few : (t < timers) × (fired ≤ t) × (late ≤ t)) where
     pub turn-off : left ≡ 0 → Turned places counts counters fired late
     unfolding timing tickTimer
     turn-off e = (ready, ((omega arith, omega arith), λ s. rw (eq-eqb left 0 e) refl))
@@ -44,7 +46,6 @@ module _ (places heads counts counters depths owners alarms intervals : List ℕ
       counted : (pl cs : List ℕ) → Mail pl heads cs → (c : ℕ) → Ready pl heads cs (set counters t c) depths owners alarms intervals
       counted pl cs m c = record {
         mail = m;
-        depths-length = ready .depths-length;
         deep = ready .deep;
         timers =
             timers-count (record { owners = owners; alarms = alarms; counters = counters; intervals = intervals }) depths (ready .timers) t (few .0) c
@@ -60,25 +61,25 @@ module _ (places heads counts counters depths owners alarms intervals : List ℕ
         pub turn-late : room ≡ 0 → Turned places counts counters fired (late + 1)
         unfolding timing tickTimer
         turn-late e =
-            let q = queued-in places heads counts (owner - 1) (ready .mail .counts) in
+            let q = queued-in places heads counts (owner - 1) in
             (ready, ((omega arith, omega arith), λ s. rw (ne-eqb left 0 on, le-ltb 1 left due, q, le-ltb 0 room (omega arith)) refl))
 
         module _ (free : room ≡ 0 → ⊥) where
-          pub may-fire : (t < 16) × (1 ≤ owner) × (owner ≤ 16) × (queued < 16)
+          pub may-fire : (t < timers) × (1 ≤ owner) × (owner ≤ objects) × (queued < Box.room)
           may-fire = let a = ready .timers .armed t (omega arith) in (few .0, a .low, a .high, omega (arith, ready .deep (owner - 1)))
 
           pub turn-fire : (pl cs : List ℕ) → Holds pl heads cs (pushBack (boxes places heads counts) (owner - 1) (entryOf (Timer t (getD alarms t 0)))) →
               Turned pl cs (set counters t (getD intervals t 0)) (fired + 1) late
           unfolding timing tickTimer fire withCounter
           turn-fire pl cs h =
-              let q = queued-in places heads counts (owner - 1) (ready .mail .counts) in
+              let q = queued-in places heads counts (owner - 1) in
               (counted pl cs (h .mail) (getD intervals t 0), ((omega arith, omega arith), λ s. rw (h .are, ne-eqb left 0 on, le-ltb 1 left due, q, lt-ltb 0 room (omega arith)) refl))
 
--- the timers from t on, of 16
-pub ticks-step : (t : ℕ) (x : Ticked) → t < 16 → tickFrom (16 - t) t x ≡ tickFrom (16 - (t + 1)) (t + 1) (tickTimer t x)
+-- the timers from t on
+pub ticks-step : (t : ℕ) (x : Ticked) → t < timers → tickFrom (timers - t) t x ≡ tickFrom (timers - (t + 1)) (t + 1) (tickTimer t x)
 unfolding tickFrom
-ticks-step t x h = let z : 16 - t ≡ suc (16 - (t + 1)) = omega arith in rw z refl
+ticks-step t x h = let z : timers - t ≡ suc (timers - (t + 1)) = omega arith in rw z refl
 
-pub ticks-end : (t : ℕ) (x : Ticked) → 16 ≤ t → tickFrom (16 - t) t x ≡ x
+pub ticks-end : (t : ℕ) (x : Ticked) → timers ≤ t → tickFrom (timers - t) t x ≡ x
 unfolding tickFrom
-ticks-end t x h = let z : 16 - t ≡ 0 = omega arith in rw z refl
+ticks-end t x h = let z : timers - t ≡ 0 = omega arith in rw z refl

@@ -1,11 +1,10 @@
 -- TICK on arrays: the state that they stand for, and what a turn relies on.
 use mathlib.Core.List.{List}
-use mathlib.Core.Path.{_≡_}
 use Prim.Native.Nat.{ℕ, _≤_}
-use lib.ListN.{length, getD}
+use lib.ListN.{getD}
 use Rattle.machine.specs.Inv.{TimersOk}
-use Rattle.machine.specs.Numbers.{objects}
 use Rattle.machine.specs.State.{State}
+use Rattle.mail.specs.Box.{room}
 use Rattle.mail.specs.View.{Mail, boxes}
 
 -- The state s with the mailboxes, depths and timers that the arrays have.
@@ -23,6 +22,5 @@ timing places heads counts counters depths owners alarms intervals s = record {
 
 pub record Ready (places heads counts counters depths owners alarms intervals : List ℕ) : Type 0 where
   pub mail : Mail places heads counts
-  pub depths-length : length depths ≡ objects
-  pub deep : (q : ℕ) → getD depths q 0 ≤ 16
+  pub deep : (q : ℕ) → getD depths q 0 ≤ room
   pub timers : TimersOk (record { owners = owners; alarms = alarms; counters = counters; intervals = intervals }) depths

@@ -8,9 +8,9 @@ use Rattle.drain.proofs.take_step.Tie as tie
 
 returns : tie.Need-returns
 returns c =
-    let start = c .before .before .before .before .before .before .before .before .before .before .before .before .before in
+    let start = c .before .before .before .before .before .before .before .before .before .before .before .before .before .before in
     let a = start .args in
-    let line = c .before .before .before .before .before .before .before .before .before .before .answer in
+    let line = c .before .before .before .before .before .before .before .before .before .before .before .answer in
     record {
       holds = c .before .before .before .before .before .before .before .take-front .ensures .0;
       rests = refl;

@@ -8,8 +8,8 @@ use borrow.Author.Needs.{needs}
 use borrow.Author.Tests.{eq-eqb, ne-eqb}
 use lib.Dec.{eqb}
 use lib.ListN.{length, getD}
-use Rattle.mail.specs.Box.{objects, boxAt, highest, highestOf}
-use Rattle.mail.specs.View.{boxes, box-length}
+use Rattle.mail.specs.Box.{boxAt, highest, highestOf}
+use Rattle.mail.specs.View.{boxes, boxes-length, queued-in}
 use Rattle.mail.proofs.highest.Statement.{statement}
 use Rattle.mail.proofs.highest.Tie as tie
 
@@ -23,24 +23,24 @@ module _ (places heads counts : List ℕ) (p : ℕ) where
   whole r = r ≡ highest (boxes places heads counts)
 
   -- one turn: the count says whether the object has mail
-  turn : (t : Bool) → 0 < p → p ≤ objects → eqb (getD counts (p - 1) 0) 0 ≡ t → whole (highestOf (boxes places heads counts) p) →
+  turn : (t : Bool) → 0 < p → eqb (getD counts (p - 1) 0) 0 ≡ t → whole (highestOf (boxes places heads counts) p) →
       whole (cond t (highestOf (boxes places heads counts) (p - 1)) p)
-  turn t l h e w = sym (step _ p l ∙ rw (box-length places heads counts (p - 1) (omega arith), e) refl) ∙ w
+  turn t l e w = sym (step _ p l ∙ rw (queued-in places heads counts (p - 1), e) refl) ∙ w
 
 -- The highest of the first p objects is the highest of all.
 abbrev Inv-loop : tie.InvT-loop
-Inv-loop counts p₀ p = (p ≤ objects) × ((places heads : List ℕ) → highestOf (boxes places heads counts) p ≡ highest (boxes places heads counts))
+Inv-loop counts p₀ p = (p ≤ length counts) × ((places heads : List ℕ) → highestOf (boxes places heads counts) p ≡ highest (boxes places heads counts))
 
 abbrev μ-loop : tie.MeasureT-loop
 μ-loop counts p₀ p = p
 
 loop-holds : tie.Need-loop-holds Inv-loop μ-loop
-loop-holds c = (omega arith, λ places heads. refl)
+loop-holds c = (omega arith, λ places heads. rw boxes-length refl)
 
 returns : tie.Need-returns Inv-loop μ-loop
 returns c =
     let at-head = c .before .before .before .loop in (
-      λ places heads. turn places heads _ _ _ (c .before .before .loop-test .taken) (at-head .inv .0) (ne-eqb _ _ (c .if1 .taken)) (at-head .inv .1 places heads),
+      λ places heads. turn places heads _ _ _ (c .before .before .loop-test .taken) (ne-eqb _ _ (c .if1 .taken)) (at-head .inv .1 places heads),
       at-head .inv .0,
     )
 
@@ -48,7 +48,7 @@ loop-again : tie.Need-loop-again Inv-loop μ-loop
 loop-again c =
     let at-head = c .before .before .before .loop in (
       omega arith,
-      λ places heads. turn places heads _ _ _ (c .before .before .loop-test .taken) (at-head .inv .0) (eq-eqb _ _ (c .if1 .left)) (at-head .inv .1 places heads),
+      λ places heads. turn places heads _ _ _ (c .before .before .loop-test .taken) (eq-eqb _ _ (c .if1 .left)) (at-head .inv .1 places heads),
     )
 
 returns-2 : tie.Need-returns-2 Inv-loop μ-loop

@@ -6,8 +6,8 @@ use Rattle.mail.proofs.take_front.Tie as tie
 
 returns : tie.Need-returns
 returns c =
-    let start = c .before .before .before .before .before .before in
-    rw (c .before .place .ensures .0, c .before .before .wide2 .ensures .0, c .before .before .before .before .wide .ensures .0) (
+    let start = c .before .before .before .before .before .before .before .before .before in
+    rw (c .before .place .ensures, c .before .before .wide2 .ensures .0, c .before .before .before .before .wide .ensures .0) (
       took-front _ _ _ _ (start .pre .1 .0) (start .pre .0) (start .pre .1 .1),
       (first-entry _ _ _ _ (start .pre .1 .0) (start .pre .1 .1), refl),
     )
@@ -16,4 +16,5 @@ pub take-front-spec : {M : Type 1} → statement M
 take-front-spec =
     tie.close
     (tie.spec (λ c. search needs) (λ c κs. search needs) (λ c. search needs) (λ c. search needs) (λ c κs. search needs) (λ c κs. search needs)
-    (λ c. search needs) (λ c. search needs) (λ c. search needs) (λ c. search needs) (λ c. search needs) (λ c. search needs) (λ c. search needs) returns)
+    (λ c. search needs) (λ c. search needs) (λ c. search needs) (λ c. search needs) (λ c. search needs) (λ c. search needs) (λ c. search needs)
+    (λ c. search needs) (λ c. search needs) returns)

@@ -9,9 +9,9 @@ returns c = rw (← c .before .subscribes .ensures, not-true (c .before .subscri
 
 returns-2 : tie.Need-returns-2
 returns-2 c =
-    let s = c .before .before .before in
+    let s = c .before .before .before .before .before in
     let t = s .before .subscribes in
-    rw (c .room-of .ensures, c .before .of-object2 .ensures .0, c .before .before .of-object .ensures .0, ← t .ensures, not-false (t .result) (s .if1 .left)) refl
+    rw (c .room-of .ensures, c .before .of-object2 .ensures .0, c .before .before .before .of-object .ensures .0, ← t .ensures, not-false (t .result) (s .if1 .left)) refl
 
 pub is-full-spec : {M : Type 1} → statement M
 is-full-spec =

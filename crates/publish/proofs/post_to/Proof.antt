@@ -14,14 +14,14 @@ returns c = (c .before .pre .0, (λ q ne. refl, λ s. rw (not-true (c .before .a
 
 push-back-requires : tie.Need-push-back-requires
 push-back-requires c κs =
-    let h = c .before .before .before .pre in
-    (h .0, (omega arith, h .1 .3 (not-false _ (c .before .before .if1 .left))))
+    let h = c .before .before .before .before .pre in
+    (h .0, (omega arith, h .1 .3 (not-false _ (c .before .before .before .if1 .left))))
 
 returns-2 : tie.Need-returns-2
 unfolding posted entryOf
 returns-2 c =
     let h = c .before .push-back .ensures .0 in
-    let t = c .before .before .before .before in (
+    let t = c .before .before .before .before .before in (
       h .mail,
       (
         λ q. others-stay (t .before .args .counts .now) _ (t .before .args .p - 1) (c .before .push-back .ensures .1) q,

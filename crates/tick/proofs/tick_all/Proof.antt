@@ -2,6 +2,7 @@ use mathlib.Core.Path.{_≡_, refl, sym, _∙_}
 use Prim.Native.Nat.{_-_, _≤_}
 use native.Mathlib.Omega.{arith}
 use Rattle.machine.specs.Clocks.{ticked, tickAll, tickFrom}
+use Rattle.machine.specs.Numbers.{timers}
 use Rattle.machine.specs.State.{State}
 use Rattle.tick.specs.Timing.{Ready, timing}
 use Rattle.tick.proofs.Turns.{ticks-step, ticks-end}
@@ -12,11 +13,11 @@ use Rattle.tick.proofs.tick_all.Tie as tie
 abbrev Inv-loop : tie.InvT-loop
 Inv-loop places₀ heads counts₀ counters₀ depths owners alarms intervals ticks₀ t₀ places counts counters ticks t =
     Ready places heads counts counters depths owners alarms intervals × ((ticks .fired ≤ t) × (ticks .late ≤ t)) × ((s : State) →
-    tickFrom (16 - t) t (ticked (timing places heads counts counters depths owners alarms intervals s) (ticks .fired) (ticks .late))
+    tickFrom (timers - t) t (ticked (timing places heads counts counters depths owners alarms intervals s) (ticks .fired) (ticks .late))
     ≡ tickAll (timing places₀ heads counts₀ counters₀ depths owners alarms intervals s))
 
 abbrev μ-loop : tie.MeasureT-loop
-μ-loop places₀ heads counts₀ counters₀ depths owners alarms intervals ticks₀ t₀ places counts counters ticks t = 16 - t
+μ-loop places₀ heads counts₀ counters₀ depths owners alarms intervals ticks₀ t₀ places counts counters ticks t = timers - t
 
 loop-holds : tie.Need-loop-holds Inv-loop μ-loop
 loop-holds c = (c .pre, (omega arith, omega arith), λ s. refl)
