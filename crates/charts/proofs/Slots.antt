@@ -14,9 +14,10 @@ use Rattle.chart.specs.Flat.{sound}
 use Rattle.chart.specs.Numbers.{rowSize, mostStates}
 use Rattle.machine.proofs.Tests.{none-holds, within-low, within-high}
 use Rattle.machine.specs.Charts.{slotUsed, loadTests, startRow, startTests}
-use Rattle.machine.specs.Numbers.{slots, tableBytes, noDepth, noObject, noSlot}
+use Rattle.machine.specs.Numbers.{objects, slots, tableBytes, noDepth, noObject, noSlot}
 use Rattle.machine.specs.Reply.{FORM, AREA, RANGE, BUSY, ABSENT, TAKEN, TABLE, lowest}
 use Rattle.machine.specs.State.{State, started, slotOf, isLoaded, isOpen}
+use Rattle.mail.specs.Box.{room}
 use Rattle.mail.specs.Entry.{handOf}
 use Rattle.state.specs.View.{stateOf}
 use Rattle.state.specs.declared.Kernel.{Kernel}
@@ -39,7 +40,7 @@ module _ (s : State) (q : ℕ) where
 
 -- LOAD.
 module _ (k : Kernel) (spoilt : Bool) (q n : ℕ) (l : List ℕ) where
-  pub load-tests : (busy used : Bool) → busy ≡ isOpen (handOf (k .hand)) → used ≡ slotUsed (stateOf k) q 16 →
+  pub load-tests : (busy used : Bool) → busy ≡ isOpen (handOf (k .hand)) → used ≡ slotUsed (stateOf k) q objects →
       lowest ((FORM, spoilt) ∷ (AREA, not (eqb (length l) tableBytes)) ∷ (RANGE, noSlot q) ∷ (BUSY, busy) ∷ (TAKEN, used) ∷ [])
       ≡ lowest (loadTests spoilt q (stateOf k) l)
   unfolding loadTests stateOf
@@ -54,9 +55,9 @@ module _ (k : Kernel) (spoilt : Bool) (q n : ℕ) (l : List ℕ) where
 -- START: the numbers, and what a sound row has.
 pub record Startable (p q depth : ℕ) (row : List ℕ) : Type 0 where
   pub low : 1 ≤ p
-  pub high : p ≤ 16
+  pub high : p ≤ objects
   pub slot : q < slots
-  pub deep : depth ≤ 16
+  pub deep : depth ≤ room
   pub whole : length row ≡ rowSize
   pub outcome : getD row 1 0 ≤ 2
 
@@ -76,10 +77,10 @@ module _ (k : Kernel) (spoilt : Bool) (p q depth n : ℕ) (l : List ℕ) where
       let is : sound row ≡ true = rw f (not-false _ (h .1 .1 .1 .1 .1 .1 .1 .1 .0)) in
       let rest = and-right (eqb (length row) rowSize) _ is in
       record {
-        low = within-low 1 16 p (h .1 .1 .0);
-        high = within-high 1 16 p (h .1 .1 .0);
+        low = within-low 1 objects p (h .1 .1 .0);
+        high = within-high 1 objects p (h .1 .1 .0);
         slot = omega (arith, within-high 0 3 q (h .1 .1 .1 .0));
-        deep = within-high 1 16 depth (h .1 .1 .1 .1 .0);
+        deep = within-high 1 room depth (h .1 .1 .1 .1 .0);
         whole = eqb-true _ _ (and-left (eqb (length row) rowSize) _ is);
         outcome = leb-true _ _ (and-left (leb (getD row 1 0) 2) _ (and-right (among mostStates (getD row 0 0)) _ rest));
       }

@@ -13,10 +13,6 @@ ghost use Rattle.machine.specs.Numbers.{objects, slots};
 ghost use Rattle.machine.specs.State.{isLoaded, withLoaded};
 ghost use Rattle.state.specs.View.{answered, areas, stateOf};
 ghost use Rattle.mail.specs.Box.{room};
-use state::Answered;
-use state::Kernel;
-use state::is_open;
-use state::refuse;
 use chart::read::state_count;
 use ground::wide;
 use layout::fill_slot;
@@ -27,6 +23,10 @@ use numbers::SLOTS;
 use numbers::TABLE_AREA;
 use refusals::load_refusal;
 use refusals::start_refusal;
+use state::Answered;
+use state::Kernel;
+use state::is_open;
+use state::refuse;
 
 const LOADED: u8 = 1;
 
@@ -42,7 +42,7 @@ fn uses(depth: u8, seat: u8, q: usize) -> bool
 
 // Whether an object uses slot q.
 fn slot_used(k: Kernel, q: usize) -> bool
-    ensures { λ r. ⌜ r ≡ slotUsed (stateOf k) q 16 ⌝ }
+    ensures { λ r. ⌜ r ≡ slotUsed (stateOf k) q objects ⌝ }
 {
     let depths = k.depths;
     let seats = k.seats;
@@ -57,13 +57,12 @@ fn slot_used(k: Kernel, q: usize) -> bool
 }
 
 // Slot q has a chart.
-fn with_chart(k: Kernel, q: usize) -> Kernel
+fn with_chart(mut k: Kernel, q: usize) -> Kernel
     requires { ⌜ q < slots ⌝ }
     ensures { λ r. ⌜ stateOf r ≡ withLoaded (set (stateOf k .loaded) q 1) (stateOf k) ⌝ }
 {
-    let mut next = k;
-    next.loaded[q] = LOADED;
-    next
+    k.loaded[q] = LOADED;
+    k
 }
 
 // LOAD slot.
@@ -101,15 +100,14 @@ fn is_loaded(k: Kernel, q: usize) -> bool
 }
 
 // Object p is started.
-fn started_at(k: Kernel, p: usize, q: usize, depth: usize, rest: u8) -> Kernel
+fn started_at(mut k: Kernel, p: usize, q: usize, depth: usize, rest: u8) -> Kernel
     requires { ⌜ (1 ≤ p) × (p ≤ objects) × (q < slots) × (depth ≤ room) ⌝ }
     ensures { λ r. ⌜ stateOf r ≡ startedAt (stateOf k) p q depth rest ⌝ }
 {
-    let mut next = k;
-    next.depths[p - 1] = depth as u8;
-    next.rests[p - 1] = rest;
-    next.seats[p - 1] = q as u8;
-    next
+    k.depths[p - 1] = depth as u8;
+    k.rests[p - 1] = rest;
+    k.seats[p - 1] = q as u8;
+    k
 }
 
 // START p, slot, depth.

@@ -9,7 +9,7 @@ use lib.ListN.{getD}
 use Rattle.machine.proofs.Tests.{none-holds, within-high}
 use Rattle.machine.specs.Clocks.{Ticked, armTests, disarmTests, tickDone, ticked}
 use Rattle.machine.specs.Inv.{Inv}
-use Rattle.machine.specs.Numbers.{noObject, noSignal, noTimer}
+use Rattle.machine.specs.Numbers.{objects, timers, noObject, noSignal, noTimer}
 use Rattle.machine.specs.Reply.{Areas, FORM, RANGE, ABSENT, TAKEN, done, lowest, replyOf}
 use Rattle.machine.specs.State.{State}
 use Rattle.mail.specs.View.{Mail}
@@ -25,14 +25,14 @@ module _ (spoilt : Bool) (t p g ticks : ℕ) where
   unfolding armTests stateOf
   arm-tests k d n e1 e2 = rw (e1, e2) refl
 
-  pub arm-allowed : (s : State) → lowest (armTests spoilt t p g ticks s) ≡ 0 → (t < 16) × (p ≤ 16)
+  pub arm-allowed : (s : State) → lowest (armTests spoilt t p g ticks s) ≡ 0 → (t < timers) × (p ≤ objects)
   unfolding armTests
   arm-allowed s e =
       let h = none-holds (armTests spoilt t p g ticks s) refl e in
       let h0 = within-high 0 15 t (h .1 .0) in
-      (omega arith, within-high 1 16 p (h .1 .1 .0))
+      (omega arith, within-high 1 objects p (h .1 .1 .0))
 
-pub disarm-allowed : (spoilt : Bool) (t : ℕ) → lowest (disarmTests spoilt t) ≡ 0 → t < 16
+pub disarm-allowed : (spoilt : Bool) (t : ℕ) → lowest (disarmTests spoilt t) ≡ 0 → t < timers
 unfolding disarmTests
 disarm-allowed spoilt t e =
     let h = none-holds (disarmTests spoilt t) refl e in
@@ -43,7 +43,7 @@ disarm-allowed spoilt t e =
 pub ready-of : (k : Kernel) → Mail (k .places) (k .heads) (k .counts) → Inv (stateOf k) →
     Ready (k .places) (k .heads) (k .counts) (k .counters) (k .depths) (k .owners) (k .alarms) (k .intervals)
 unfolding stateOf
-ready-of k m i = record { mail = m; depths-length = i .seats .depths-length; deep = i .mail .deep; timers = i .timers }
+ready-of k m i = record { mail = m; deep = i .mail .deep; timers = i .timers }
 
 pub tick-answers : (r : Answered) (z : Areas) (s : State) (f l : ℕ) (x : Ticked) → stateOf (r .kernel) ≡ s → r .reply ≡ replyOf (done f l) → ticked s f l ≡ x →
     answered r z ≡ tickDone x z

@@ -9,15 +9,15 @@ ghost use Rattle.machine.specs.Clocks.{armedWith, withCounter};
 ghost use Rattle.machine.specs.Numbers.{timers};
 ghost use Rattle.machine.specs.Reply.{Areas};
 ghost use Rattle.state.specs.View.{answered, Good, stateOf};
-use state::Answered;
-use state::Kernel;
-use state::refuse;
 use ground::one;
 use mail::of_object;
 use numbers::TIMERS;
 use numbers::answer::FORM;
 use refusals::arm_refusal;
 use refusals::disarm_refusal;
+use state::Answered;
+use state::Kernel;
+use state::refuse;
 
 // The ticks that are left of timer t; 0 where there is no such timer.
 fn counter_of(counters: &[u16; TIMERS], t: usize) -> u16
@@ -27,16 +27,15 @@ fn counter_of(counters: &[u16; TIMERS], t: usize) -> u16
     if t < TIMERS { counters[t] } else { 0 }
 }
 
-fn arm_timer(k: Kernel, t: usize, p: u8, g: u8, ticks: u16, interval: u16) -> Kernel
+fn arm_timer(mut k: Kernel, t: usize, p: u8, g: u8, ticks: u16, interval: u16) -> Kernel
     requires { ⌜ t < timers ⌝ }
     ensures { λ r. ⌜ stateOf r ≡ armedWith (stateOf k) t p g ticks interval ⌝ }
 {
-    let mut next = k;
-    next.owners[t] = p;
-    next.alarms[t] = g;
-    next.counters[t] = ticks;
-    next.intervals[t] = interval;
-    next
+    k.owners[t] = p;
+    k.alarms[t] = g;
+    k.counters[t] = ticks;
+    k.intervals[t] = interval;
+    k
 }
 
 // ARM timer, p, signal, ticks, interval.
@@ -66,13 +65,12 @@ pub fn arm(
     }
 }
 
-fn disarm_timer(k: Kernel, t: usize) -> Kernel
+fn disarm_timer(mut k: Kernel, t: usize) -> Kernel
     requires { ⌜ t < timers ⌝ }
     ensures { λ r. ⌜ stateOf r ≡ withCounter t 0 (stateOf k) ⌝ }
 {
-    let mut next = k;
-    next.counters[t] = 0;
-    next
+    k.counters[t] = 0;
+    k
 }
 
 // DISARM timer.
@@ -93,7 +91,7 @@ pub fn disarm(k: Kernel, spoilt: bool, t: usize) -> Answered
 }
 
 // TICK.
-pub fn tick(k: Kernel, spoilt: bool) -> Answered
+pub fn tick(mut k: Kernel, spoilt: bool) -> Answered
     requires { ⌜ Good k ⌝ }
     ensures { λ r. ⌜ ((z : Areas) → answered r z ≡ machine.tick spoilt (stateOf k) z) ⌝ }
 {
@@ -118,12 +116,11 @@ pub fn tick(k: Kernel, spoilt: bool) -> Answered
         &alarms,
         &intervals,
     );
-    let mut next = k;
-    next.places = places;
-    next.counts = counts;
-    next.counters = counters;
+    k.places = places;
+    k.counts = counts;
+    k.counters = counters;
     Answered {
-        kernel: next,
+        kernel: k,
         reply: reply::done(ticks.fired, ticks.late),
     }
 }

@@ -1,7 +1,10 @@
 // Steps: what NEXT reads of the event that comes, and DRAIN's steps over arrays that the kernel lends. The steps leave the blocks alone:
 // they note which are let go, and the kernel then lets go of all of them.
+ghost use mathlib.Core.Bool.{cond};
+ghost use mathlib.Core.List.{List};
 ghost use mathlib.Core.Path.{_≡_};
-ghost use Prim.Native.Nat.{_+_, _-_, _<_, _≤_};
+ghost use Prim.Native.Nat.{ℕ, _+_, _-_, _<_, _≤_};
+ghost use lib.Dec.{eqb, ltb};
 ghost use lib.ListN.{getD, length};
 ghost use Rattle.machine.specs.Inv.{IsEvent};
 ghost use Rattle.machine.specs.Numbers.{tableBytes, mostSteps, objects};
@@ -9,7 +12,9 @@ ghost use Rattle.machine.specs.Reply.{replyOf, ran};
 ghost use Rattle.machine.specs.Run.{FitFor, FitRun, blockOf, runFrom, seen};
 ghost use Rattle.machine.specs.State.{State};
 ghost use Rattle.machine.specs.Steps.{signalOf, handle₁, handle₂};
+ghost use Rattle.mail.specs.Box.{highest};
 ghost use Rattle.mail.specs.Entry.{handOf};
+ghost use Rattle.mail.specs.View.{boxes};
 ghost use Rattle.drain.specs.Turn.{Acts, Generations, Looks, Runs, Sized, Turn, runAt};
 use ground::fill;
 use ground::wide;
@@ -24,6 +29,11 @@ use numbers::SLOT_BYTES;
 
 // What NEXT answers for a timer: 128 + t, then 0.
 const TIMER: u8 = 128;
+
+// DRAIN's second value: nothing is queued, or it stopped below its budget.
+const ALL_DONE: u8 = 1;
+
+const STOPPED: u8 = 2;
 
 // For an event that is no block.
 const NO_BLOCK: u8 = 255;
@@ -220,4 +230,15 @@ pub fn run(
         n += 1;
     }
     n
+}
+
+// DRAIN's second value: 1 if nothing is queued, else 2 if it stopped below its budget, else 0.
+pub fn last_value(counts: &[u8; OBJECTS], steps: usize, budget: usize) -> u8
+    ensures { λ r. ⌜ ((places heads : List ℕ) →
+        r ≡ cond (eqb (highest (boxes places heads (now (counts .entry)))) 0) 1 (cond (ltb steps budget) 2 0)) ⌝ }
+{
+    if mail::highest(counts) == 0 {
+        return ALL_DONE;
+    }
+    if steps < budget { STOPPED } else { 0 }
 }

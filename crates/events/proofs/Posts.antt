@@ -14,15 +14,15 @@ use Rattle.machine.specs.Numbers.{blocks, objects, outside, noBlock, noObject, 
 use Rattle.machine.specs.Reply.{FORM, RANGE, STALE, ABSENT, FULL, lowest}
 use Rattle.machine.specs.State.{State, boxOf}
 use Rattle.mail.specs.Box.{boxAt, room}
-use Rattle.mail.specs.View.{Mail, boxes, queued-in}
+use Rattle.mail.specs.View.{boxes, queued-in}
 use Rattle.pool.specs.Row.{staleAt}
 use Rattle.pool.specs.View.{cells}
 use Rattle.state.specs.View.{stateOf}
 use Rattle.state.specs.declared.Kernel.{Kernel}
 
-pub queued-is : (k : Kernel) (p : ℕ) → Mail (k .places) (k .heads) (k .counts) → length (boxOf (stateOf k) p) ≡ getD (k .counts) (p - 1) 0
+pub queued-is : (k : Kernel) (p : ℕ) → length (boxOf (stateOf k) p) ≡ getD (k .counts) (p - 1) 0
 unfolding stateOf
-queued-is k p m = queued-in (k .places) (k .heads) (k .counts) (p - 1) (m .counts)
+queued-is k p = queued-in (k .places) (k .heads) (k .counts) (p - 1)
 
 -- The block is one of the blocks, the object one of the objects, and its mailbox has a place.
 pub record Postable (k : Kernel) (b p : ℕ) : Type 0 where
@@ -31,12 +31,12 @@ pub record Postable (k : Kernel) (b p : ℕ) : Type 0 where
   pub high : p ≤ objects
   pub free : getD (k .counts) (p - 1) 0 < room
 
-module _ (k : Kernel) (spoilt : Bool) (b gen p margin : ℕ) (m : Mail (k .places) (k .heads) (k .counts)) where
+module _ (k : Kernel) (spoilt : Bool) (b gen p margin : ℕ) where
   pub post-tests : (st : Bool) (d q room : ℕ) → st ≡ staleAt (cells (k .pool)) b gen → d ≡ getD (k .depths) (p - 1) 0 → q ≡ getD (k .counts) (p - 1) 0 → room ≡ d - q →
       lowest ((FORM, spoilt) ∷ (RANGE, noBlock b) ∷ (RANGE, noObject p) ∷ (RANGE, noMargin margin) ∷ (STALE, st) ∷ (ABSENT, not (not (eqb d 0))) ∷ (FULL, leb room margin) ∷ [])
       ≡ lowest (postTests spoilt b gen p margin (stateOf k))
   unfolding postTests stateOf
-  post-tests st d q room e1 e2 e3 e4 = rw (e4, e3, e2, e1, queued-in (k .places) (k .heads) (k .counts) (p - 1) (m .counts)) refl
+  post-tests st d q room e1 e2 e3 e4 = rw (e4, e3, e2, e1, queued-in (k .places) (k .heads) (k .counts) (p - 1)) refl
 
   pub postable : lowest (postTests spoilt b gen p margin (stateOf k)) ≡ 0 → Inv (stateOf k) → Postable k b p
   unfolding postTests stateOf
@@ -45,9 +45,9 @@ module _ (k : Kernel) (spoilt : Bool) (b gen p margin : ℕ) (m : Mail (k .place
       let f : margin < getD (k .depths) (p - 1) 0 - length (boxAt (boxes (k .places) (k .heads) (k .counts)) (p - 1)) = leb-false _ _ (h .1 .1 .1 .1 .1 .1 .0) in
       record {
         block = within-block b (h .1 .0);
-        low = within-low 1 16 p (h .1 .1 .0);
-        high = within-high 1 16 p (h .1 .1 .0);
-        free = omega (arith, i .mail .deep (p - 1), queued-in (k .places) (k .heads) (k .counts) (p - 1) (m .counts));
+        low = within-low 1 objects p (h .1 .1 .0);
+        high = within-high 1 objects p (h .1 .1 .0);
+        free = omega (arith, i .mail .deep (p - 1), queued-in (k .places) (k .heads) (k .counts) (p - 1));
       }
 
 -- The tests of POSTFRONT are those of POST with margin 0.

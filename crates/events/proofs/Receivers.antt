@@ -10,22 +10,22 @@ use Rattle.machine.specs.Numbers.{objects}
 use Rattle.machine.specs.Reply.{Areas, answer, done}
 use Rattle.machine.specs.State.{State, signalIn}
 use Rattle.mail.specs.Box.{one, room}
-use Rattle.mail.specs.View.{Mail, queued-in}
+use Rattle.mail.specs.View.{queued-in}
 use Rattle.publish.specs.Arrays.{HavePlaces, Reads}
 use Rattle.state.specs.View.{stateOf}
 use Rattle.state.specs.declared.Kernel.{Kernel}
 
-module _ (k : Kernel) (mail : Mail (k .places) (k .heads) (k .counts)) where
+module _ (k : Kernel) where
   -- the arrays of a kernel are read by its state
   pub kernel-reads : Reads (stateOf k) (k .wants) (k .depths) (k .counts)
   unfolding stateOf
-  kernel-reads = record { wants = refl; depths = refl; counts = λ q. queued-in (k .places) (k .heads) (k .counts) q (mail .counts) }
+  kernel-reads = record { wants = refl; depths = refl; counts = λ q. queued-in (k .places) (k .heads) (k .counts) q }
 
   -- where no receiver is full each has a place
   pub have-places : (g : ℕ) → fullReceiver (stateOf k) g objects ≡ false → ((q : ℕ) → getD (k .depths) q 0 ≤ room) → HavePlaces (k .wants) (k .counts) g objects
   unfolding stateOf
   have-places g e deep p low high w =
-      omega (arith, have-room (stateOf k) g objects e p low high w, queued-in (k .places) (k .heads) (k .counts) (p - 1) (mail .counts), deep (p - 1))
+      omega (arith, have-room (stateOf k) g objects e p low high w, queued-in (k .places) (k .heads) (k .counts) (p - 1), deep (p - 1))
 
 -- what is done: with no subscriber, and with n of them
 module _ (b : ℕ) (s : State) (z : Areas) (n : ℕ) where

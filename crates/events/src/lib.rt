@@ -13,9 +13,6 @@ ghost use Rattle.machine.specs.State.{withCells, withHolds};
 ghost use Rattle.mail.specs.Box.{room};
 ghost use Rattle.pool.specs.View.{cells};
 ghost use Rattle.state.specs.View.{answered, Good, stateOf};
-use state::Answered;
-use state::Kernel;
-use state::refuse;
 use ground::byte_at;
 use ground::one;
 use ground::wide;
@@ -27,11 +24,14 @@ use numbers::answer::INUSE;
 use pool::Pool;
 use refusals::handle_refusal;
 use refusals::post_refusal;
+use state::Answered;
+use state::Kernel;
+use state::refuse;
 
 const MOST_HOLDS: u8 = 15;
 
 // Block b goes to the back of p's mailbox, which has room.
-fn post_back(k: Kernel, b: usize, p: usize) -> Kernel
+fn post_back(mut k: Kernel, b: usize, p: usize) -> Kernel
     requires { ⌜ (b < blocks) × (1 ≤ p) × (p ≤ objects) × (getD (k .counts) (p - 1) 0 < room) ⌝ }
     ensures { λ r. ⌜ stateOf r ≡ posted (stateOf k) b p ⌝ }
 {
@@ -40,11 +40,10 @@ fn post_back(k: Kernel, b: usize, p: usize) -> Kernel
     let mut counts = k.counts;
     mail::push_back(&mut places, &heads, &mut counts, p - 1, 1 + b as u16);
     let pool = pool::add(k.pool, b);
-    let mut next = k;
-    next.places = places;
-    next.counts = counts;
-    next.pool = pool;
-    next
+    k.places = places;
+    k.counts = counts;
+    k.pool = pool;
+    k
 }
 
 // The tests of POST; those of POSTFRONT are the same with margin 0.
@@ -76,7 +75,7 @@ pub fn post(k: Kernel, spoilt: bool, b: usize, generation: u8, p: usize, margin:
 }
 
 // Block b goes to the front of p's mailbox, which has room.
-fn post_ahead(k: Kernel, b: usize, p: usize) -> Kernel
+fn post_ahead(mut k: Kernel, b: usize, p: usize) -> Kernel
     requires { ⌜ (b < blocks) × (1 ≤ p) × (p ≤ objects) × (getD (k .counts) (p - 1) 0 < room) ⌝ }
     ensures { λ r. ⌜ stateOf r ≡ postedFront (stateOf k) b p ⌝ }
 {
@@ -85,12 +84,11 @@ fn post_ahead(k: Kernel, b: usize, p: usize) -> Kernel
     let mut counts = k.counts;
     mail::push_front(&mut places, &mut heads, &mut counts, p - 1, 1 + b as u16);
     let pool = pool::add(k.pool, b);
-    let mut next = k;
-    next.places = places;
-    next.heads = heads;
-    next.counts = counts;
-    next.pool = pool;
-    next
+    k.places = places;
+    k.heads = heads;
+    k.counts = counts;
+    k.pool = pool;
+    k
 }
 
 // POSTFRONT handle, p.
@@ -110,16 +108,15 @@ pub fn post_front(k: Kernel, spoilt: bool, b: usize, generation: u8, p: usize) -
 }
 
 // The kernel with another pool.
-fn with_pool(k: Kernel, pool: Pool) -> Kernel
+fn with_pool(mut k: Kernel, pool: Pool) -> Kernel
     ensures { λ r. ⌜ stateOf r ≡ withCells (cells pool) (stateOf k) ⌝ }
 {
-    let mut next = k;
-    next.pool = pool;
-    next
+    k.pool = pool;
+    k
 }
 
 // Block b goes to the back of every subscriber to signal g, each of which has room.
-fn post_to_all(k: Kernel, b: usize, g: usize) -> Kernel
+fn post_to_all(mut k: Kernel, b: usize, g: usize) -> Kernel
     requires { ⌜ (b < blocks) × (g < 256) ⌝ }
     requires { ⌜ (fullReceiver (stateOf k) g objects ≡ false) × ((q : ℕ) → getD (k .depths) q 0 ≤ room) ⌝ }
     ensures { λ r. ⌜ stateOf r ≡ published (stateOf k) g b objects ⌝ }
@@ -129,11 +126,10 @@ fn post_to_all(k: Kernel, b: usize, g: usize) -> Kernel
     let heads = k.heads;
     let mut counts = k.counts;
     let pool = publish::post_to_all(&wants, &mut places, &heads, &mut counts, k.pool, b, g);
-    let mut next = k;
-    next.places = places;
-    next.counts = counts;
-    next.pool = pool;
-    next
+    k.places = places;
+    k.counts = counts;
+    k.pool = pool;
+    k
 }
 
 // What PUBLISH does where every subscriber to the event's signal g has a place.
@@ -177,14 +173,13 @@ pub fn publish(k: Kernel, spoilt: bool, b: usize, generation: u8) -> Answered
 }
 
 // The kernel with another pool and n holds on block b.
-fn with_holds(k: Kernel, pool: Pool, b: usize, n: u8) -> Kernel
+fn with_holds(mut k: Kernel, pool: Pool, b: usize, n: u8) -> Kernel
     requires { ⌜ b < blocks ⌝ }
     ensures { λ r. ⌜ stateOf r ≡ withHolds (set (k .holds) b n) (withCells (cells pool) (stateOf k)) ⌝ }
 {
-    let mut next = k;
-    next.holds[b] = n;
-    next.pool = pool;
-    next
+    k.holds[b] = n;
+    k.pool = pool;
+    k
 }
 
 // HOLD handle: a hold is a reference.

@@ -14,9 +14,6 @@ ghost use Rattle.pool.specs.Row.{changed};
 ghost use Rattle.pool.specs.View.{cells};
 ghost use Rattle.pool.specs.declared.Found.the-variants.{At};
 ghost use Rattle.state.specs.View.{answered, areas, Good, stateOf};
-use state::Answered;
-use state::Kernel;
-use state::refuse;
 use ground::wide;
 use layout::place_of;
 use layout::put_payload;
@@ -25,18 +22,20 @@ use pool::Found;
 use pool::Pool;
 use refusals::new_refusal;
 use refusals::read_refusal;
+use state::Answered;
+use state::Kernel;
+use state::refuse;
 
 // The event in block b, which the pool has handed out: its signal, its size, no holds.
-fn new_event(k: Kernel, pool: Pool, b: usize, g: u8, size: u8) -> Kernel
+fn new_event(mut k: Kernel, pool: Pool, b: usize, g: u8, size: u8) -> Kernel
     requires { ⌜ (b < blocks) × (cells pool ≡ changed handedOut (cells (k .pool)) b) ⌝ }
     ensures { λ r. ⌜ stateOf r ≡ newEvent (stateOf k) b g size ⌝ }
 {
-    let mut next = k;
-    next.pool = pool;
-    next.signals[b] = g;
-    next.sizes[b] = size;
-    next.holds[b] = 0;
-    next
+    k.pool = pool;
+    k.signals[b] = g;
+    k.sizes[b] = size;
+    k.holds[b] = 0;
+    k
 }
 
 // What NEW does with block b.

@@ -1,7 +1,10 @@
 -- What the type of a kernel says of its arrays.
 use mathlib.Core.List.{List}
-use mathlib.Core.Path.{sym, _∙_}
-use lib.ListN.{length-map}
+use mathlib.Core.Path.{_≡_, sym, _∙_}
+use Prim.Native.Nat.{ℕ, _-_, _<_, _≤_}
+use native.Mathlib.Omega.{arith}
+use lib.ListN.{length, length-map}
+use Rattle.machine.specs.Numbers.{objects}
 use Rattle.mail.specs.View.{Mail}
 use denote.Laws.{Is}
 use denote.Struct.Declared.{row}
@@ -10,9 +13,16 @@ use Rattle.state.specs.declared.Kernel.{Kernel}
 use Rattle.state.proofs.Kernel.{the-type}
 
 -- the arrays of a kernel have their lengths, as its type says
-pub mail-of : (k : Kernel) (vs : List Val) → Is (row the-type) k vs → Mail (k .places) (k .heads) (k .counts)
-mail-of k vs h = record {
-  places = sym (length-map (k .places) (λ v. v)) ∙ h .1 .1 .1 .1 .1 .1 .0 .1 .0 .1;
-  heads = sym (length-map (k .heads) (λ v. v)) ∙ h .1 .1 .1 .1 .1 .1 .1 .0 .1 .0 .1;
-  counts = sym (length-map (k .counts) (λ v. v)) ∙ h .1 .1 .1 .1 .1 .1 .1 .1 .0 .1 .0 .1;
-}
+module _ (k : Kernel) (vs : List Val) (h : Is (row the-type) k vs) where
+  pub rings : length (k .counts) ≡ objects
+  rings = sym (length-map (k .counts) (λ v. v)) ∙ h .1 .1 .1 .1 .1 .1 .1 .1 .0 .1 .0 .1
+
+  pub mail-of : Mail (k .places) (k .heads) (k .counts)
+  mail-of = record {
+    places = rw rings (sym (length-map (k .places) (λ v. v)) ∙ h .1 .1 .1 .1 .1 .1 .0 .1 .0 .1);
+    heads = rw rings (sym (length-map (k .heads) (λ v. v)) ∙ h .1 .1 .1 .1 .1 .1 .1 .0 .1 .0 .1);
+  }
+
+  -- every object has a mailbox
+  pub box-of : (p : ℕ) → 1 ≤ p → p ≤ objects → p - 1 < length (k .counts)
+  box-of p low high = omega (arith, rings)

@@ -1,11 +1,9 @@
 // Steps: NEXT, END, DRAIN.
 pub mod records;
 
-ghost use mathlib.Core.Bool.{cond};
 ghost use mathlib.Core.List.{List};
 ghost use mathlib.Core.Path.{_≡_};
 ghost use Prim.Native.Nat.{ℕ, _-_, _<_, _≤_};
-ghost use lib.Dec.{eqb, ltb};
 ghost use lib.ListN.{getD, length};
 ghost use Rattle.machine.specs.Numbers.{tableBytes, logBytes, objects};
 ghost use Rattle.machine.specs.Reply.{Areas, answer, done, ran};
@@ -19,11 +17,6 @@ ghost use Rattle.mail.specs.declared.Hand.the-variants.{Nothing};
 ghost use Rattle.drain.specs.Turn.{Looks, Runs};
 ghost use Rattle.state.specs.View.{answered, areas, Good, stateOf};
 ghost use Rattle.steps.specs.Step.{afterStep};
-use state::Answered;
-use state::NO_EVENT;
-use state::Kernel;
-use state::is_open;
-use state::refuse;
 use drain::Coming;
 use ground::one;
 use ground::wide;
@@ -34,13 +27,12 @@ use numbers::TABLE_AREA;
 use numbers::answer::TABLE;
 use refusals::drain_refusal;
 use refusals::end_refusal;
-use refusals::first;
 use refusals::next_refusal;
-
-// DRAIN's second value: nothing is queued, or it stopped below its budget.
-const ALL_DONE: u8 = 1;
-
-const STOPPED: u8 = 2;
+use state::Answered;
+use state::Kernel;
+use state::NO_EVENT;
+use state::is_open;
+use state::refuse;
 
 // The front event of object p leaves the mailbox and is in hand; the next state is the new rest at once.
 fn step(mut k: Kernel, p: usize, next: u8) -> Kernel
@@ -136,13 +128,6 @@ pub fn end(k: Kernel, spoilt: bool) -> Answered
     end_done(k)
 }
 
-// DRAIN's second value: 1 if nothing is queued, else 2 if it stopped below its budget, else 0.
-fn drain_end(p: usize, steps: usize, budget: usize) -> u8
-    ensures { λ r. ⌜ r ≡ cond (eqb p 0) 1 (cond (ltb steps budget) 2 0) ⌝ }
-{
-    first(ALL_DONE, p == 0, first(STOPPED, steps < budget, 0))
-}
-
 // The steps of DRAIN over arrays of their own; then all their blocks are let go at once.
 fn drain_done(mut k: Kernel, budget: usize, tables: &[u8], log: &mut [u8]) -> Answered
     requires { ⌜ Good k × (handOf (k .hand) ≡ Nothing) × (budget < 256) ⌝ }
@@ -172,7 +157,7 @@ fn drain_done(mut k: Kernel, budget: usize, tables: &[u8], log: &mut [u8]) -> An
         budget,
     );
     let pool = pool::let_go_all(k.pool, &gone[0..n]);
-    let last = drain_end(mail::highest(&counts), n, budget);
+    let last = drain::last_value(&counts, n, budget);
     k.pool = pool;
     k.heads = heads;
     k.counts = counts;

@@ -10,23 +10,22 @@ ghost use Rattle.machine.specs.Numbers.{objects};
 ghost use Rattle.machine.specs.Reply.{Areas, answer, done, lowest, unless};
 ghost use Rattle.machine.specs.State.{subscribed};
 ghost use Rattle.state.specs.View.{answered, stateOf};
-use state::Answered;
-use state::Kernel;
-use state::refuse;
 use ground::one;
 use mail::of_object;
 use numbers::SIGNAL_PLACES;
 use publish::subscribes;
 use refusals::subscribe_refusal;
+use state::Answered;
+use state::Kernel;
+use state::refuse;
 
 // Object p subscribes to g from now on, or does not.
-fn wanting(k: Kernel, p: usize, g: usize, v: u8) -> Kernel
+fn wanting(mut k: Kernel, p: usize, g: usize, v: u8) -> Kernel
     requires { ⌜ (1 ≤ p) × (p ≤ objects) × (g ≤ lastSignal) ⌝ }
     ensures { λ r. ⌜ stateOf r ≡ machine.wanting (stateOf k) p g v ⌝ }
 {
-    let mut next = k;
-    next.wants[SIGNAL_PLACES * (p - 1) + g] = v;
-    next
+    k.wants[SIGNAL_PLACES * (p - 1) + g] = v;
+    k
 }
 
 // The tests of both commands.

@@ -3,6 +3,7 @@ use mathlib.Core.Path.{_≡_, refl, _∙_}
 use Prim.Native.Nat.{_<_, _≤_}
 use native.Mathlib.Omega.{arith}
 use Rattle.machine.specs.Clocks.{arm, armTests}
+use Rattle.machine.specs.Numbers.{objects, timers}
 use Rattle.machine.specs.Reply.{lowest}
 use Rattle.state.specs.View.{answered, stateOf}
 use Rattle.clocks.proofs.Timers.{arm-tests, arm-allowed}
@@ -26,7 +27,7 @@ returns : tie.Need-returns
 unfolding arm
 returns c = λ z. refusal _ _ _ _ z _ (tests-are (c .before .before)) (c .before .if1 .taken) (c .refuse .ensures)
 
-allowed : (c : tie.Else1) → let a = c .before .before .before .before .before .before .before .before .args in (a .t < 16) × (a .p ≤ 16)
+allowed : (c : tie.Else1) → let a = c .before .before .before .before .before .before .before .before .args in (a .t < timers) × (a .p ≤ objects)
 allowed c =
     let a = c .before .before .before .before .before .before .before .before .args in
     arm-allowed (a .spoilt) (a .t) (a .p) (a .g) (a .ticks) (stateOf (a .k)) (rw (← tests-are (c .before)) (c .if1 .left))
@@ -39,5 +40,4 @@ returns-2 c =
 pub arm-spec : {M : Type 1} → statement M
 arm-spec =
     tie.close
-    (tie.spec (λ c κs. search needs) counter-of-requires (λ c κs. search needs) (λ c κs. search needs) returns
-    (λ c. let h = allowed c in omega (arith, h .1)) (λ c κs. allowed c .0) (λ c κs. search needs) returns-2)
+    (tie.spec (λ c. search needs) (λ c κs. search needs) counter-of-requires (λ c κs. search needs) (λ c κs. search needs) returns (λ c. let h = allowed c in omega (arith, h .1)) (λ c κs. allowed c .0) (λ c κs. search needs) returns-2)

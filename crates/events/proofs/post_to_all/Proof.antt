@@ -9,7 +9,7 @@ post-to-all-requires : tie.Need-post-to-all-requires
 post-to-all-requires c κs =
     let s = c .before .before .before .before .before .before .before .before in
     let m = mail-of (s .args .k) _ (s .good .0) in
-    (m, (s .pre .0 .0, s .pre .0 .1, have-places (s .args .k) m _ (s .pre .1 .0) (s .pre .1 .1)))
+    (m, (s .pre .0 .0, s .pre .0 .1, have-places (s .args .k) _ (s .pre .1 .0) (s .pre .1 .1)))
 
 returns : tie.Need-returns
 unfolding stateOf

@@ -2,9 +2,9 @@ use borrow.Author.Needs.{needs}
 use mathlib.Core.Path.{_≡_, refl, sym, _∙_}
 use lib.ListN.{getD}
 use Rattle.machine.specs.Events.{fullReceiver, publish, publishTests}
+use Rattle.machine.specs.Numbers.{objects}
 use Rattle.machine.specs.Reply.{lowest}
 use Rattle.state.specs.View.{stateOf}
-use Rattle.state.proofs.Arrays.{mail-of}
 use Rattle.state.proofs.Glue.{refusal, doing}
 use Rattle.events.proofs.Handles.{handle-allowed}
 use Rattle.events.proofs.Receivers.{kernel-reads}
@@ -18,10 +18,10 @@ signal-is c = c .wide .ensures .0 ∙ c .before .byte-at .ensures
 
 full-is : (c : tie.After-any-full) →
     let w = c .before .before .before .before .before in
-    c .any-full .result ≡ fullReceiver (stateOf (w .before .before .before .before .before .before .before .args .k)) (w .wide .result) 16
+    c .any-full .result ≡ fullReceiver (stateOf (w .before .before .before .before .before .before .before .args .k)) (w .wide .result) objects
 full-is c =
     let s = c .before .before .before .before .before .before .before .before .before .before .before .before in
-    c .any-full .ensures (stateOf (s .args .k)) (kernel-reads (s .args .k) (mail-of (s .args .k) _ (s .good .0)))
+    c .any-full .ensures (stateOf (s .args .k)) (kernel-reads (s .args .k))
 
 tests-are : (c : tie.After-handle-refusal) →
     let a = c .before .before .before .before .before .before .before .before .before .before .before .before .before .args in

@@ -4,6 +4,7 @@ use mathlib.Core.Path.{_≡_, refl, _∙_}
 use Prim.Native.Nat.{_<_}
 use native.Mathlib.Omega.{arith}
 use Rattle.machine.specs.Events.{release, releaseTests, released}
+use Rattle.machine.specs.Numbers.{blocks}
 use Rattle.machine.specs.Reply.{lowest}
 use Rattle.state.specs.View.{answered, stateOf}
 use Rattle.state.proofs.Glue.{refusal, doing}
@@ -21,7 +22,7 @@ returns : tie.Need-returns
 unfolding release
 returns c = λ z. refusal _ _ _ _ z _ (tests-are (c .before .before)) (c .before .if1 .taken) (c .refuse .ensures)
 
-allowed : (c : tie.Else1) → (c .before .before .before .before .before .before .args .b < 56) × (c .before .before .before .byte-at .result ≡ 0 → ⊥)
+allowed : (c : tie.Else1) → (c .before .before .before .before .before .before .args .b < blocks) × (c .before .before .before .byte-at .result ≡ 0 → ⊥)
 allowed c = let h = handle-allowed _ _ _ _ _ _ refl (c .before .handle-refusal .ensures) (c .if1 .left) in (h .block, eqb-false _ _ (h .passed))
 
 returns-2 : tie.Need-returns-2

@@ -2,9 +2,16 @@ use borrow.Author.Needs.{needs}
 use mathlib.Core.List.{[]}
 use mathlib.Core.Path.{refl}
 use Rattle.drain.proofs.Laws.{entry-event}
+use Rattle.state.proofs.Arrays.{mail-of, box-of}
 use Rattle.state.specs.View.{stateOf}
 use Rattle.steps.proofs.coming.Statement.{statement}
 use Rattle.steps.proofs.coming.Tie as tie
+
+front-requires : tie.Need-front-requires
+front-requires c κs =
+    let s = c .before .before .before .before .before .before .before .before .before in
+    let k = s .args .k in
+    (mail-of k _ (s .good .0), (box-of k _ (s .good .0) _ (s .pre .0 .0) (s .pre .0 .1), s .pre .0 .2))
 
 event : tie.Need-look-requires
 unfolding stateOf
@@ -19,4 +26,4 @@ returns c = rw (c .before .before .front .ensures) at (c .look .ensures (stateOf
 pub coming-spec : {M : Type 1} → statement M
 coming-spec =
     tie.close
-    (tie.spec (λ c. search needs) (λ c κs. search needs) (λ c. search needs) (λ c. search needs) (λ c. search needs) (λ c. search needs) event returns)
+    (tie.spec (λ c. search needs) (λ c. search needs) (λ c. search needs) (λ c. search needs) front-requires (λ c. search needs) (λ c. search needs) (λ c. search needs) (λ c. search needs) event returns)

@@ -29,22 +29,21 @@ part-let-go-all-end : tie.Need-part-let-go-all-end
 part-let-go-all-end c = omega (arith, most (c .before .before .before), c .before .before .before .run .ensures .0 .gone)
 
 cast-done : tie.Need-cast-done
-cast-done c = omega (arith, most (c .before .before .before .before .before .before .before .before))
+cast-done c = omega (arith, most (c .before .before .before .before .before .before .before))
 
 returns : tie.Need-returns
 unfolding answered stateOf drainDone drainEnd
 returns c = λ p.
-    let s = c .before .before .before .before .before .before .before .before .before .before .before .before .before .before .before .before .before .before .before .before .before .before .before .before .before .before .before .before in
+    let s = c .before .before .before .before .before .before .before .before .before .before .before .before .before .before .before .before .before .before .before .before .before .before .before .before .before .before .before in
     let a = s .args in
-    let g = c .before .before .before .before .before .before .before .before .before .before .before .before .before .before .before .before .before .before .before .generations in
-    let run = c .before .before .before .before .before .before .before .before .before .run in
+    let g = c .before .before .before .before .before .before .before .before .before .before .before .before .before .before .before .before .before .before .generations in
+    let run = c .before .before .before .before .before .before .before .before .run in
     let z : run .result - 0 ≡ run .result = omega arith in
     rw (
       drained-is (a .k) (g .result) (a .tables .now) (a .log .now) (g .ensures) (s .pre .0 .1) (s .pre .0 .0) (a .budget) _ (run .ensures .1),
-      c .before .before .before .before .let-go-all .ensures,
+      c .before .before .before .let-go-all .ensures,
       c .done .ensures,
-      c .before .drain-end .ensures,
-      c .before .before .highest .ensures .0 (a .k .places) (run .last .1 .0),
+      c .before .last-value .ensures (a .k .places) (run .last .1 .0),
       z,
     )
     refl
@@ -53,4 +52,4 @@ pub drain-done-spec : {M : Type 1} → statement M
 drain-done-spec =
     tie.close
     (tie.spec (λ c κs. search needs) run-requires (λ c. search needs) (λ c. search needs) part-let-go-all-end (λ c κs. search needs) (λ c κs. search needs)
-    (λ c κs. search needs) cast-done (λ c κs. search needs) (λ c. search needs) returns)
+    cast-done (λ c κs. search needs) (λ c. search needs) returns)

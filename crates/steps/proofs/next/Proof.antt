@@ -6,14 +6,16 @@ use Prim.Native.Nat.{_+_, _-_, _<_, _≤_}
 use native.Mathlib.Omega.{arith}
 use lib.ListN.{getD, take, drop}
 use Rattle.chart.specs.Flat.{sound}
+use Rattle.chart.specs.Numbers.{rowSize}
 use Rattle.drain.proofs.Laws.{row-unsound, row-sound, row-read, row-end, runs}
 use Rattle.ground.specs.Bools.{refused, passed}
-use Rattle.machine.specs.Numbers.{tableBytes}
+use Rattle.machine.specs.Numbers.{objects, tableBytes}
 use Rattle.machine.specs.Reply.{TABLE, lowest}
 use Rattle.machine.specs.Run.{Fit}
 use Rattle.machine.specs.Steps.{toRun, next, nextRow}
 use Rattle.mail.specs.View.{highest-count}
 use Rattle.state.specs.View.{stateOf}
+use Rattle.state.proofs.Arrays.{rings}
 use Rattle.state.proofs.Glue.{refusal, doing}
 use Rattle.steps.proofs.Runs.{before, before-row, but-row, tables-long, queued-some, fit-next, step-is}
 use Rattle.steps.proofs.next.Statement.{statement}
@@ -52,14 +54,15 @@ some-queued c z =
 
 with-mail : (c : tie.Else1) →
     let p = c .before .before .before .highest .result in
-    (1 ≤ p) × (p ≤ 16) × (0 < getD (c .before .before .before .before .before .before .before .args .k .counts) (p - 1) 0)
+    (1 ≤ p) × (p ≤ objects) × (0 < getD (c .before .before .before .before .before .before .before .args .k .counts) (p - 1) 0)
 with-mail c =
     let h = c .before .before .before .highest .ensures in
+    let s = c .before .before .before .before .before .before .before in
     let ne = some-queued c in
     let l : 1 ≤ c .before .before .before .highest .result = omega (arith, ne) in
-    (l, h .1, highest-count _ _ (h .0) l)
+    (l, omega (arith, h .1, rings (s .args .k) _ (s .good .0)), highest-count _ _ (h .0) l)
 
-within : (c : tie.After-coming) → c .coming .result .at + 24 ≤ tableBytes
+within : (c : tie.After-coming) → c .coming .result .at + rowSize ≤ tableBytes
 within c = row-end _ [] _ (object (c .before .before)) _ (c .coming .ensures) (fit (c .before))
 
 part-row-end : tie.Need-part-row-end
@@ -70,7 +73,7 @@ part-row-end c =
 -- The row that is read.
 row-is : (c : tie.After-coming) →
     let a = c .before .before .before .before .before .before .before .before .args in
-    take (c .coming .result .at + 24 - c .coming .result .at) (drop (c .coming .result .at) (a .tables .now)) ≡ nextRow (stateOf (a .k)) (a .tables .now)
+    take (c .coming .result .at + rowSize - c .coming .result .at) (drop (c .coming .result .at) (a .tables .now)) ≡ nextRow (stateOf (a .k)) (a .tables .now)
 row-is c = row-read _ _ _ (object (c .before .before)) _ (c .coming .ensures)
 
 returns-2 : tie.Need-returns-2
@@ -105,6 +108,4 @@ returns-3 c = λ p l.
 pub next-spec : {M : Type 1} → statement M
 next-spec =
     tie.close
-    (tie.spec (λ c κs. search needs) (λ c κs. search needs) (λ c κs. search needs) (λ c κs. search needs) returns
-    (λ c κs. (with-mail c, (object (c .before), fit c))) (λ c. omega (arith, within c)) (λ c. search needs) (λ c. search needs) part-row-end
-    (λ c κs. search needs) (λ c κs. search needs) returns-2 next-done-requires returns-3)
+    (tie.spec (λ c. search needs) (λ c κs. search needs) (λ c κs. search needs) (λ c κs. search needs) (λ c κs. search needs) returns (λ c κs. (with-mail c, (object (c .before), fit c))) (λ c. omega (arith, within c)) (λ c. search needs) (λ c. search needs) part-row-end (λ c κs. search needs) (λ c κs. search needs) returns-2 next-done-requires returns-3)

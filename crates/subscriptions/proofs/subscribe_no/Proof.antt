@@ -10,4 +10,4 @@ unfolding stateOf subscribeTests
 returns c = c .subscribe-refusal .ensures ∙ rw (c .before .of-object .ensures .0) refl
 
 pub subscribe-no-spec : {M : Type 1} → statement M
-subscribe-no-spec = tie.close (tie.spec (λ c κs. search needs) (λ c κs. search needs) returns)
+subscribe-no-spec = tie.close (tie.spec (λ c. search needs) (λ c κs. search needs) (λ c κs. search needs) returns)
