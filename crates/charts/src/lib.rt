@@ -14,12 +14,12 @@ ghost use Rattle.machine.specs.State.{isLoaded, withLoaded};
 ghost use Rattle.state.specs.View.{answered, areas, stateOf};
 ghost use Rattle.mail.specs.Box.{room};
 use chart::read::state_count;
+use ground::byte_at;
 use ground::wide;
 use layout::fill_slot;
 use layout::start_row;
 use mail::of_object;
 use numbers::OBJECTS;
-use numbers::SLOTS;
 use numbers::TABLE_AREA;
 use refusals::load_refusal;
 use refusals::start_refusal;
@@ -93,10 +93,7 @@ fn is_loaded(k: Kernel, q: usize) -> bool
     ensures { λ r. ⌜ r ≡ isLoaded (stateOf k) q ⌝ }
 {
     let loaded = k.loaded;
-    if SLOTS <= q {
-        return false;
-    }
-    loaded[q] == LOADED
+    byte_at(&loaded, q) == LOADED
 }
 
 // Object p is started.

@@ -1,15 +1,15 @@
 // Events and their blocks.
 pub mod records;
 
-ghost use mathlib.Core.Bool.{false};
+ghost use mathlib.Core.Bool.{cond, false};
 ghost use mathlib.Core.Path.{_≡_};
-ghost use Prim.Native.Nat.{ℕ, _-_, _<_, _≤_};
-ghost use lib.ListN.{getD, set};
+ghost use Prim.Native.Nat.{ℕ, _+_, _-_, _<_, _≤_};
+ghost use lib.ListN.{getD, length, set};
 ghost use Rattle.machine.specs.Events as machine;
 ghost use Rattle.machine.specs.Events.{fullReceiver, postTests, posted, postedFront, publishDone, published};
 ghost use Rattle.machine.specs.Numbers.{blocks, objects};
-ghost use Rattle.machine.specs.Reply.{Areas, lowest};
-ghost use Rattle.machine.specs.State.{withCells, withHolds};
+ghost use Rattle.machine.specs.Reply.{Areas, answer, done, lowest, unless};
+ghost use Rattle.machine.specs.State.{boxOf, withCells, withHolds};
 ghost use Rattle.mail.specs.Box.{room};
 ghost use Rattle.pool.specs.View.{cells};
 ghost use Rattle.state.specs.View.{answered, Good, stateOf};
@@ -46,7 +46,7 @@ fn post_back(mut k: Kernel, b: usize, p: usize) -> Kernel
     k
 }
 
-// The tests of POST; those of POSTFRONT are the same with margin 0.
+// The tests of POST.
 fn post_no(k: Kernel, spoilt: bool, b: usize, generation: u8, p: usize, margin: usize) -> u8
     ensures { λ r. ⌜ r ≡ lowest (postTests spoilt b generation p margin (stateOf k)) ⌝ }
 {
@@ -56,22 +56,6 @@ fn post_no(k: Kernel, spoilt: bool, b: usize, generation: u8, p: usize, margin: 
     let free = room_of(depth, of_object(&counts, p));
     let stale = pool::stale(k.pool, b, generation);
     post_refusal(spoilt, b, p, margin, stale, depth != 0, free)
-}
-
-// POST handle, p, margin.
-pub fn post(k: Kernel, spoilt: bool, b: usize, generation: u8, p: usize, margin: usize) -> Answered
-    requires { ⌜ Good k ⌝ }
-    ensures { λ r. ⌜ ((z : Areas) → answered r z ≡ machine.post spoilt b generation p margin (stateOf k) z) ⌝ }
-{
-    let no = post_no(k, spoilt, b, generation, p, margin);
-    if no != 0 {
-        return refuse(k, no);
-    }
-    let counts = k.counts;
-    Answered {
-        kernel: post_back(k, b, p),
-        reply: reply::done(counts[p - 1] + 1, 0),
-    }
 }
 
 // Block b goes to the front of p's mailbox, which has room.
@@ -91,28 +75,56 @@ fn post_ahead(mut k: Kernel, b: usize, p: usize) -> Kernel
     k
 }
 
-// POSTFRONT handle, p.
-pub fn post_front(k: Kernel, spoilt: bool, b: usize, generation: u8, p: usize) -> Answered
-    requires { ⌜ Good k ⌝ }
-    ensures { λ r. ⌜ ((z : Areas) → answered r z ≡ machine.postFront spoilt b generation p (stateOf k) z) ⌝ }
+// Block b goes to p's mailbox, which has room: to the front, or to the back.
+fn post_at(k: Kernel, b: usize, p: usize, ahead: bool) -> Kernel
+    requires { ⌜ (b < blocks) × (1 ≤ p) × (p ≤ objects) × (getD (k .counts) (p - 1) 0 < room) ⌝ }
+    ensures { λ r. ⌜ stateOf r ≡ cond ahead (postedFront (stateOf k) b p) (posted (stateOf k) b p) ⌝ }
 {
-    let no = post_no(k, spoilt, b, generation, p, 0);
+    if ahead {
+        return post_ahead(k, b, p);
+    }
+    post_back(k, b, p)
+}
+
+// What both commands do: the tests are those of POST, which with margin 0 are those of POSTFRONT.
+fn posting(
+    k: Kernel,
+    spoilt: bool,
+    b: usize,
+    generation: u8,
+    p: usize,
+    margin: usize,
+    ahead: bool,
+) -> Answered
+    requires { ⌜ Good k ⌝ }
+    ensures { λ r. ⌜ ((z : Areas) → answered r z ≡ unless (lowest (postTests spoilt b generation p margin (stateOf k))) (stateOf k) z
+        (answer (cond ahead (postedFront (stateOf k) b p) (posted (stateOf k) b p)) (done (length (boxOf (stateOf k) p) + 1) 0) z)) ⌝ }
+{
+    let no = post_no(k, spoilt, b, generation, p, margin);
     if no != 0 {
         return refuse(k, no);
     }
     let counts = k.counts;
     Answered {
-        kernel: post_ahead(k, b, p),
+        kernel: post_at(k, b, p, ahead),
         reply: reply::done(counts[p - 1] + 1, 0),
     }
 }
 
-// The kernel with another pool.
-fn with_pool(mut k: Kernel, pool: Pool) -> Kernel
-    ensures { λ r. ⌜ stateOf r ≡ withCells (cells pool) (stateOf k) ⌝ }
+// POST handle, p, margin.
+pub fn post(k: Kernel, spoilt: bool, b: usize, generation: u8, p: usize, margin: usize) -> Answered
+    requires { ⌜ Good k ⌝ }
+    ensures { λ r. ⌜ ((z : Areas) → answered r z ≡ machine.post spoilt b generation p margin (stateOf k) z) ⌝ }
 {
-    k.pool = pool;
-    k
+    posting(k, spoilt, b, generation, p, margin, false)
+}
+
+// POSTFRONT handle, p.
+pub fn post_front(k: Kernel, spoilt: bool, b: usize, generation: u8, p: usize) -> Answered
+    requires { ⌜ Good k ⌝ }
+    ensures { λ r. ⌜ ((z : Areas) → answered r z ≡ machine.postFront spoilt b generation p (stateOf k) z) ⌝ }
+{
+    posting(k, spoilt, b, generation, p, 0, true)
 }
 
 // Block b goes to the back of every subscriber to signal g, each of which has room.
@@ -133,7 +145,7 @@ fn post_to_all(mut k: Kernel, b: usize, g: usize) -> Kernel
 }
 
 // What PUBLISH does where every subscriber to the event's signal g has a place.
-fn publish_done(k: Kernel, b: usize, g: usize) -> Answered
+fn publish_done(mut k: Kernel, b: usize, g: usize) -> Answered
     requires { ⌜ (b < blocks) × (g < 256) × (g ≡ getD (k .signals) b 0) ⌝ }
     requires { ⌜ (fullReceiver (stateOf k) g objects ≡ false) × ((q : ℕ) → getD (k .depths) q 0 ≤ room) ⌝ }
     ensures { λ r. ⌜ ((z : Areas) → answered r z ≡ publishDone (machine.receivers (stateOf k) g objects) b (stateOf k) z) ⌝ }
@@ -142,8 +154,10 @@ fn publish_done(k: Kernel, b: usize, g: usize) -> Answered
     let n = publish::receivers(&wants, g);
     if n == 0 {
         let gone = pool::drop_new(k.pool, b);
+        let pool = gone.pool;
+        k.pool = pool;
         return Answered {
-            kernel: with_pool(k, gone.pool),
+            kernel: k,
             reply: reply::done(0, one(gone.freed)),
         };
     }
@@ -220,7 +234,7 @@ pub fn release(k: Kernel, spoilt: bool, b: usize, generation: u8) -> Answered
 }
 
 // DROP handle: frees a new event.
-pub fn drop_event(k: Kernel, spoilt: bool, b: usize, generation: u8) -> Answered
+pub fn drop_event(mut k: Kernel, spoilt: bool, b: usize, generation: u8) -> Answered
     requires { ⌜ Good k ⌝ }
     ensures { λ r. ⌜ ((z : Areas) → answered r z ≡ machine.dropEvent spoilt b generation (stateOf k) z) ⌝ }
 {
@@ -230,8 +244,10 @@ pub fn drop_event(k: Kernel, spoilt: bool, b: usize, generation: u8) -> Answered
     if no != 0 {
         return refuse(k, no);
     }
+    let pool = gone.pool;
+    k.pool = pool;
     Answered {
-        kernel: with_pool(k, gone.pool),
+        kernel: k,
         reply: reply::done(0, 0),
     }
 }

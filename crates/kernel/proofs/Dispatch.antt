@@ -51,7 +51,8 @@ unknown-form n r d s z h =
       off 16 refl,
       off 17 refl,
       off 18 refl,
-    ) refl
+    )
+    refl
   where
     off : (i : ℕ) → outside 1 18 i ≡ false → eqb n i ≡ false
     off i e = ne-eqb n i (is-none 18 n i h (within-low 1 18 i e) (within-high 1 18 i e))

@@ -14,7 +14,6 @@ returns c =
     λ z. rw (
       ← s .before .receivers .ensures (stateOf (a .k)) refl,
       done-none (a .b) (stateOf (a .k)) z _ (s .if1 .taken),
-      c .before .before .with-pool .ensures,
       gone .row,
       c .done .ensures,
       c .before .one .ensures .0,
@@ -37,5 +36,5 @@ returns-2 c =
 pub publish-done-spec : {M : Type 1} → statement M
 publish-done-spec =
     tie.close
-    (tie.spec (λ c κs. search needs) (λ c κs. search needs) (λ c κs. search needs) (λ c κs. search needs) (λ c κs. search needs)
+    (tie.spec (λ c κs. search needs) (λ c κs. search needs) (λ c κs. search needs) (λ c κs. search needs)
     returns (λ c κs. search needs) (λ c κs. search needs) returns-2)
