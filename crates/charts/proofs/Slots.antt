@@ -50,7 +50,7 @@ module _ (k : Kernel) (spoilt : Bool) (q n : ℕ) (l : List ℕ) where
   unfolding loadTests
   load-allowed e z =
       let h = none-holds (loadTests spoilt q (stateOf k) l) refl (sym e ∙ z) in
-      (omega (arith, within-high 0 3 q (h .1 .1 .0)), eqb-true _ _ (not-false _ (h .1 .0)))
+      (omega (arith, within-high 0 (slots - 1) q (h .1 .1 .0)), eqb-true _ _ (not-false _ (h .1 .0)))
 
 -- START: the numbers, and what a sound row has.
 pub record Startable (p q depth : ℕ) (row : List ℕ) : Type 0 where
@@ -79,7 +79,7 @@ module _ (k : Kernel) (spoilt : Bool) (p q depth n : ℕ) (l : List ℕ) where
       record {
         low = within-low 1 objects p (h .1 .1 .0);
         high = within-high 1 objects p (h .1 .1 .0);
-        slot = omega (arith, within-high 0 3 q (h .1 .1 .1 .0));
+        slot = omega (arith, within-high 0 (slots - 1) q (h .1 .1 .1 .0));
         deep = within-high 1 room depth (h .1 .1 .1 .1 .0);
         whole = eqb-true _ _ (and-left (eqb (length row) rowSize) _ is);
         outcome = leb-true _ _ (and-left (leb (getD row 1 0) 2) _ (and-right (among mostStates (getD row 0 0)) _ rest));

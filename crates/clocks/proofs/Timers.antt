@@ -29,14 +29,14 @@ module _ (spoilt : Bool) (t p g ticks : ℕ) where
   unfolding armTests
   arm-allowed s e =
       let h = none-holds (armTests spoilt t p g ticks s) refl e in
-      let h0 = within-high 0 15 t (h .1 .0) in
+      let h0 = within-high 0 (timers - 1) t (h .1 .0) in
       (omega arith, within-high 1 objects p (h .1 .1 .0))
 
 pub disarm-allowed : (spoilt : Bool) (t : ℕ) → lowest (disarmTests spoilt t) ≡ 0 → t < timers
 unfolding disarmTests
 disarm-allowed spoilt t e =
     let h = none-holds (disarmTests spoilt t) refl e in
-    let h0 = within-high 0 15 t (h .1 .0) in
+    let h0 = within-high 0 (timers - 1) t (h .1 .0) in
     omega arith
 
 -- TICK: the arrays of a kernel, and what it answers with those that are left

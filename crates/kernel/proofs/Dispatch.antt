@@ -13,12 +13,16 @@ use Rattle.machine.proofs.Keeps.{keeps}
 use Rattle.machine.proofs.Tests.{within-low, within-high}
 use Rattle.machine.specs.Inv.{Inv}
 use Rattle.machine.specs.Machine.{answerTo, arg, choose, command}
-use Rattle.machine.specs.Numbers.{outside}
+use Rattle.machine.specs.Numbers.{recordBytes, outside}
 use Rattle.machine.specs.Reply.{FORM, Areas, answer, no, replyOf}
 use Rattle.machine.specs.State.{State}
 use Rattle.state.specs.View.{Good, answered, stateOf}
 use Rattle.state.specs.declared.Answered.{Answered}
 use Rattle.state.specs.declared.Kernel.{Kernel}
+
+-- Commands have the numbers 1 to 18.
+abbrev last : ℕ
+last = 18
 
 -- n is none of 1 to m
 abbrev NoneTo : ℕ → ℕ → Type 0
@@ -29,7 +33,7 @@ is-none : (m n i : ℕ) → NoneTo m n → 0 < i → i ≤ m → n ≡ i → ⊥
 is-none zero n i h l g = absurd (omega arith)
 is-none (suc m) n i h l g = ⊎-elim (λ e. rw e (h .1)) (λ g. is-none m n i (h .0) l (le-of-suc-le-suc g)) (eq-or-lt-of-le g)
 
-unknown-form : (n : ℕ) (r d : List ℕ) (s : State) (z : Areas) → NoneTo 18 n → command n r d s z ≡ answer s (no FORM) z
+unknown-form : (n : ℕ) (r d : List ℕ) (s : State) (z : Areas) → NoneTo last n → command n r d s z ≡ answer s (no FORM) z
 unfolding choose command outside
 unknown-form n r d s z h =
     rw (
@@ -54,8 +58,8 @@ unknown-form n r d s z h =
     )
     refl
   where
-    off : (i : ℕ) → outside 1 18 i ≡ false → eqb n i ≡ false
-    off i e = ne-eqb n i (is-none 18 n i h (within-low 1 18 i e) (within-high 1 18 i e))
+    off : (i : ℕ) → outside 1 last i ≡ false → eqb n i ≡ false
+    off i e = ne-eqb n i (is-none last n i h (within-low 1 last i e) (within-high 1 last i e))
 
 module _ (k : Kernel) (good : Good k) (a : Answered) (r d : List ℕ) (z y : Areas) where
   abbrev Promised : Type 0
@@ -66,16 +70,16 @@ module _ (k : Kernel) (good : Good k) (a : Answered) (r d : List ℕ) (z y : Are
   unfolding answered
   promised e = (subst (λ x. Inv (x .state)) (sym e) (keeps (stateOf k) r d z good), e)
 
-  module _ (whole : length r ≡ 72) where
+  module _ (whole : length r ≡ recordBytes) where
     pub known : (n : ℕ) → arg r 0 ≡ n → answered a y ≡ command n r d (stateOf k) z → Promised
     unfolding answerTo choose
-    known n e h = promised (rw (eq-eqb (length r) 72 whole, e) h)
+    known n e h = promised (rw (eq-eqb (length r) recordBytes whole, e) h)
 
   module _ (form : (a .kernel ≡ k) × (a .reply ≡ replyOf (no FORM))) (same : y ≡ z) where
-    pub no-record : (length r ≡ 72 → ⊥) → Promised
+    pub no-record : (length r ≡ recordBytes → ⊥) → Promised
     unfolding answered answerTo choose
-    no-record ne = promised (rw (ne-eqb (length r) 72 ne, form .0, form .1, same) refl)
+    no-record ne = promised (rw (ne-eqb (length r) recordBytes ne, form .0, form .1, same) refl)
 
-    pub unknown : length r ≡ 72 → NoneTo 18 (arg r 0) → Promised
+    pub unknown : length r ≡ recordBytes → NoneTo last (arg r 0) → Promised
     unfolding answered answerTo choose
-    unknown whole h = promised (rw (eq-eqb (length r) 72 whole, unknown-form (arg r 0) r d (stateOf k) z h, form .0, form .1, same) refl)
+    unknown whole h = promised (rw (eq-eqb (length r) recordBytes whole, unknown-form (arg r 0) r d (stateOf k) z h, form .0, form .1, same) refl)

@@ -18,6 +18,10 @@ slots = 4
 abbrev pub mostHolds : ℕ
 mostHolds = 15
 
+-- The most bytes of an event's payload: those of the largest blocks, and of a record.
+abbrev pub mostBytes : ℕ
+mostBytes = 64
+
 -- Each object has a place for every number below 32, which says whether it subscribes to that signal.
 abbrev pub signalPlaces : ℕ
 signalPlaces = 32
@@ -64,7 +68,7 @@ abbrev pub noBlock : ℕ → Bool
 noBlock b = outside 0 55 b
 
 abbrev pub noSize : ℕ → Bool
-noSize n = outside 0 64 n
+noSize n = outside 0 mostBytes n
 
 abbrev pub noMargin : ℕ → Bool
 noMargin m = outside 0 15 m

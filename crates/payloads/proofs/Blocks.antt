@@ -14,7 +14,7 @@ use Rattle.machine.proofs.Counts.{live-handle}
 use Rattle.machine.proofs.Tests.{none-holds, within-high, within-block}
 use Rattle.machine.specs.Events.{noneFound, newTests, readTests, payloadOf}
 use Rattle.machine.specs.Inv.{Inv}
-use Rattle.machine.specs.Numbers.{blocks, payloadBytes, noSignal, noSize, capacity, placeOf}
+use Rattle.machine.specs.Numbers.{blocks, mostBytes, payloadBytes, noSignal, noSize, capacity, placeOf}
 use Rattle.machine.specs.Reply.{FORM, AREA, RANGE, DRY, lowest}
 use Rattle.machine.specs.State.{State, sizeIn}
 use Rattle.pool.specs.Cell.{Cell, handedOut}
@@ -44,11 +44,11 @@ module _ (s : State) (spoilt : Bool) (l : List ℕ) (g n x y : ℕ) (e : x ≡ g
     pub found-size : found (s .cells) n ≡ At b
     found-size = sym (rw d at f)
 
-    pub found-allowed : lowest (newList spoilt l x y false) ≡ 0 → (b < 56) × (n ≤ 64) × (length l ≡ payloadBytes)
+    pub found-allowed : lowest (newList spoilt l x y false) ≡ 0 → (b < blocks) × (n ≤ mostBytes) × (length l ≡ payloadBytes)
     found-allowed z =
         let h = none-holds (newList spoilt l x y false) refl z in
         let w = found-lowest (s .cells) (poolFor y) b (sym f) in
-        (omega (arith, w .high, pool-end y), omega (arith, within-high 0 64 y (h .1 .1 .1 .0)), eqb-true _ _ (not-false _ (h .1 .0)))
+        (omega (arith, w .high, pool-end y), omega (arith, within-high 0 mostBytes y (h .1 .1 .1 .0)), eqb-true _ _ (not-false _ (h .1 .0)))
 
 -- what a take that found block b made of the row
 pub taken-row : (s t : List Cell) (n b : ℕ) → At b ≡ found s n → t ≡ afterTake s (found s n) → t ≡ changed handedOut s b
@@ -56,15 +56,15 @@ unfolding afterTake
 taken-row s t n b e f = f ∙ rw (← e) refl
 
 -- no block holds more than 64 bytes
-capacity-most : (b : ℕ) → capacity b ≤ 64
+capacity-most : (b : ℕ) → capacity b ≤ mostBytes
 unfolding capacity
-capacity-most b = cond-all (λ n. n ≤ 64) (ltb b 32) (omega arith) (cond-all (λ n. n ≤ 64) (ltb b 48) (omega arith) (omega arith))
+capacity-most b = cond-all (λ n. n ≤ mostBytes) (ltb b 32) (omega arith) (cond-all (λ n. n ≤ mostBytes) (ltb b 48) (omega arith) (omega arith))
 
 -- READ: the block, where its payload ends, and the payload's length.
 pub record Readable (s : State) (b : ℕ) (l : List ℕ) : Type 0 where
   pub block : b < blocks
   pub within : placeOf b + sizeIn s b ≤ length l
-  pub short : length (payloadOf s b l) ≤ 64
+  pub short : length (payloadOf s b l) ≤ mostBytes
 
 pub readable : (s : State) (spoilt : Bool) (b gen n : ℕ) (l : List ℕ) → Inv s → n ≡ lowest (readTests spoilt b gen s l) → n ≡ 0 → Readable s b l
 unfolding readTests payloadOf

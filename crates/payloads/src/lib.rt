@@ -7,7 +7,7 @@ ghost use Prim.Native.Nat.{ℕ, _+_, _<_, _≤_};
 ghost use lib.ListN.{getD, length};
 ghost use Rattle.machine.specs.Events as machine;
 ghost use Rattle.machine.specs.Events.{newEvent, newIn, payloadOf, readPart, readTests};
-ghost use Rattle.machine.specs.Numbers.{placeOf, blocks, payloadBytes};
+ghost use Rattle.machine.specs.Numbers.{placeOf, blocks, mostBytes, payloadBytes};
 ghost use Rattle.machine.specs.Reply.{lowest};
 ghost use Rattle.pool.specs.Cell.{handedOut};
 ghost use Rattle.pool.specs.Row.{changed};
@@ -70,7 +70,7 @@ pub fn new(
     payload: &[u8],
     payloads: &mut [u8],
 ) -> Answered
-    requires { ⌜ length (now payload) ≡ 64 ⌝ }
+    requires { ⌜ length (now payload) ≡ mostBytes ⌝ }
     ensures { λ r. ⌜ ((t l : List ℕ) → answered r (areas (now (payloads .exit)) t l)
         ≡ machine.new spoilt g size (now (payload .entry)) (stateOf k) (areas (now (payloads .entry)) t l)) ⌝ }
 {

@@ -3,6 +3,7 @@ use mathlib.Core.Path.{_≡_, refl, sym, _∙_}
 use Prim.Native.Nat.{_≤_}
 use native.Mathlib.Omega.{arith}
 use Rattle.machine.specs.Charts.{slotUsed}
+use Rattle.machine.specs.Numbers.{objects}
 use Rattle.machine.specs.State.{State}
 use Rattle.state.specs.View.{stateOf}
 use Rattle.charts.proofs.Slots.{used-none, used-here, used-below}
@@ -11,7 +12,7 @@ use Rattle.charts.proofs.slot_used.Tie as tie
 
 -- Of the objects up to n one uses the slot exactly if one of all does.
 abbrev Inv-loop : tie.InvT-loop
-Inv-loop q depths seats n₀ n = (n ≤ 16) × ((s : State) → s .objects .depths ≡ depths → s .objects .seats ≡ seats → slotUsed s q n ≡ slotUsed s q 16)
+Inv-loop q depths seats n₀ n = (n ≤ objects) × ((s : State) → s .objects .depths ≡ depths → s .objects .seats ≡ seats → slotUsed s q n ≡ slotUsed s q objects)
 
 abbrev μ-loop : tie.MeasureT-loop
 μ-loop q depths seats n₀ n = n

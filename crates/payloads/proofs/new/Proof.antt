@@ -4,7 +4,7 @@ use Prim.Native.Nat.{ℕ, _<_, _≤_}
 use native.Mathlib.Omega.{arith}
 use lib.ListN.{length}
 use Rattle.machine.specs.Events.{new, newTests}
-use Rattle.machine.specs.Numbers.{payloadBytes}
+use Rattle.machine.specs.Numbers.{blocks, mostBytes, payloadBytes}
 use Rattle.machine.specs.Reply.{lowest}
 use Rattle.pool.specs.Row.{found}
 use Rattle.pool.specs.View.{cells}
@@ -53,7 +53,7 @@ module _ (c : tie.After-new-refusal2) where
   unfolding stateOf
   size-found = found-size (stateOf (start .args .k)) (start .args .spoilt) (start .args .payloads .now) _ _ _ _ (c .before .wide3 .ensures .0) is-size b is-found
 
-  allowed : c .new-refusal2 .result ≡ 0 → (b < 56) × (start .args .size ≤ 64) × (length (start .args .payloads .now) ≡ payloadBytes)
+  allowed : c .new-refusal2 .result ≡ 0 → (b < blocks) × (start .args .size ≤ mostBytes) × (length (start .args .payloads .now) ≡ payloadBytes)
   unfolding stateOf
   allowed z = found-allowed (stateOf (start .args .k)) (start .args .spoilt) (start .args .payloads .now) _ _ _ _ (c .before .wide3 .ensures .0) is-size b is-found (sym (c .new-refusal2 .ensures) ∙ z)
 

@@ -2,6 +2,7 @@ use borrow.Author.Needs.{needs}
 use mathlib.Core.Path.{_≡_, refl}
 use Prim.Native.Nat.{_-_, _≤_}
 use native.Mathlib.Omega.{arith}
+use Rattle.machine.specs.Numbers.{mostSteps}
 use Rattle.machine.specs.Steps.{drainDone, drainEnd}
 use Rattle.state.specs.View.{answered, stateOf}
 use Rattle.state.proofs.Arrays.{mail-of}
@@ -18,7 +19,7 @@ run-requires c κs =
       drain-fit (a .k) (g .result) (a .tables .now) (a .log .now) (g .ensures) (s .pre .0 .1) (s .pre .0 .0),
     )
 
-most : (c : tie.After-run) → c .run .result ≤ 255
+most : (c : tie.After-run) → c .run .result ≤ mostSteps
 most c =
     let s = c .before .before .before .before .before .before .before .before .before .before .before .before .before .before .before .before .before .before .before in
     let a = s .args in
