@@ -14,7 +14,6 @@
 // The line of a call has the reply without the zeros at its end; then, as the call leaves them, the sum of each area
 // over all its bytes; then the length and the sum of the part that READ hands back.
 
-ghost use Prim.Native.Nat.{_≤_};
 ghost use Rattle.commands.specs.View.{Good};
 use input::low_byte_first;
 use input::read_exactly;
@@ -145,10 +144,7 @@ fn call(
     )
 }
 
-fn with_named(line: Line, name: &[u8], number: u64) -> Line
-    requires { ⌜ line .n ≤ 192 ⌝ }
-    ensures { λ r. ⌜ r .n ≤ 192 ⌝ }
-{
+fn with_named(line: Line, name: &[u8], number: u64) -> Line {
     text::with_number(text::with_bytes(line, name), number)
 }
 
