@@ -28,7 +28,7 @@ returns c =
     let d = c .before .before .before .before .before .before .before .args .chart .now in
     let n = c .before .before .before .before .before .before .before .args .n in
     let i = c .before .before .before .before .before .loop .i in
-    let q : formAt n d i ≡ false = cc (tail-part d (8 * i), refused (c .before .form-ok .ensures) (c .if1 .taken), c .before .before .kind-at .ensures) in
+    let q : formAt n d i ≡ false = rw (← c .before .before .kind-at .ensures, ← tail-part d (8 * i)) (refused (c .before .form-ok .ensures) (c .if1 .taken)) in
     sym (ap (λ b. b && among 24 n) (every-fail (formAt n d) i (length d / 8) (search needs) q)) ∙ c .before .before .before .before .before .loop .inv .1
 
 loop-again : tie.Need-loop-again Inv-loop μ-loop
@@ -36,7 +36,7 @@ loop-again c =
     let d = c .before .before .before .before .before .before .before .args .chart .now in
     let n = c .before .before .before .before .before .before .before .args .n in
     let i = c .before .before .before .before .before .loop .i in
-    let q : formAt n d i ≡ true = cc (tail-part d (8 * i), passed (c .before .form-ok .ensures) (c .if1 .left), c .before .before .kind-at .ensures) in
+    let q : formAt n d i ≡ true = rw (← c .before .before .kind-at .ensures, ← tail-part d (8 * i)) (passed (c .before .form-ok .ensures) (c .if1 .left)) in
     (search needs, sym (ap (λ b. b && among 24 n) (every-pass (formAt n d) i (length d / 8) (search needs) q)) ∙ c .before .before .before .before .before .loop .inv .1)
 
 -- behind the loop only the number of states is left
