@@ -90,6 +90,10 @@ fn read_rest(head: Head, record: &mut [u8], chart: &mut [u8]) -> bool {
     read_exactly(chart, head.chart)
 }
 
+fn clear(area: &mut [u8]) {
+    ground::fill(area, b"");
+}
+
 // The kernel of the last call, or after a fresh start a new one.
 fn begin(
     k: Kernel,
@@ -104,9 +108,9 @@ fn begin(
     if !is_fresh {
         return k;
     }
-    ground::fill(payloads, b"");
-    ground::fill(tables, b"");
-    ground::fill(log, b"");
+    clear(payloads);
+    clear(tables);
+    clear(log);
     kernel::fresh()
 }
 

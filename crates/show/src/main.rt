@@ -21,6 +21,22 @@ fn with_item(line: Line, name: &[u8], number: u8) -> Line {
     with_number(with_bytes(line, name), wide(number))
 }
 
+// The answers from ABSENT on: in a function of their own, since a check's time grows with the square of the arms.
+fn later_answer_line(number: u8) -> Line {
+    let line = text::empty();
+    match number {
+        answer::ABSENT => with_bytes(line, b"ABSENT"),
+        answer::TAKEN => with_bytes(line, b"TAKEN"),
+        answer::FULL => with_bytes(line, b"FULL"),
+        answer::DRY => with_bytes(line, b"DRY"),
+        answer::HOLDS => with_bytes(line, b"HOLDS"),
+        answer::INUSE => with_bytes(line, b"INUSE"),
+        answer::CHART => with_bytes(line, b"CHART"),
+        answer::TABLE => with_bytes(line, b"TABLE"),
+        _ => with_item(line, b"unknown answer ", number),
+    }
+}
+
 fn answer_line(number: u8) -> Line {
     let line = text::empty();
     match number {
@@ -32,15 +48,7 @@ fn answer_line(number: u8) -> Line {
         answer::NOSTEP => with_bytes(line, b"NOSTEP"),
         answer::IDLE => with_bytes(line, b"IDLE"),
         answer::STALE => with_bytes(line, b"STALE"),
-        answer::ABSENT => with_bytes(line, b"ABSENT"),
-        answer::TAKEN => with_bytes(line, b"TAKEN"),
-        answer::FULL => with_bytes(line, b"FULL"),
-        answer::DRY => with_bytes(line, b"DRY"),
-        answer::HOLDS => with_bytes(line, b"HOLDS"),
-        answer::INUSE => with_bytes(line, b"INUSE"),
-        answer::CHART => with_bytes(line, b"CHART"),
-        answer::TABLE => with_bytes(line, b"TABLE"),
-        _ => with_item(line, b"unknown answer ", number),
+        _ => later_answer_line(number),
     }
 }
 
