@@ -14,7 +14,6 @@
 // The line of a call has the reply without the zeros at its end; then, as the call leaves them, the sum of each area
 // over all its bytes; then the length and the sum of the part that READ hands back.
 
-ghost use Prim.Native.Nat.{_≤_};
 ghost use Rattle.state.specs.View.{Good};
 use input::low_byte_first;
 use input::read_exactly;
@@ -91,6 +90,10 @@ fn read_rest(head: Head, record: &mut [u8], chart: &mut [u8]) -> bool {
     read_exactly(chart, head.chart)
 }
 
+fn clear(area: &mut [u8]) {
+    ground::fill(area, b"");
+}
+
 // The kernel of the last call, or after a fresh start a new one.
 fn begin(
     k: Kernel,
@@ -105,9 +108,9 @@ fn begin(
     if !is_fresh {
         return k;
     }
-    ground::fill(payloads, b"");
-    ground::fill(tables, b"");
-    ground::fill(log, b"");
+    clear(payloads);
+    clear(tables);
+    clear(log);
     kernel::fresh()
 }
 
@@ -145,10 +148,7 @@ fn call(
     )
 }
 
-fn with_named(line: Line, name: &[u8], number: u64) -> Line
-    requires { ⌜ line .n ≤ 192 ⌝ }
-    ensures { λ r. ⌜ r .n ≤ 192 ⌝ }
-{
+fn with_named(line: Line, name: &[u8], number: u64) -> Line {
     text::with_number(text::with_bytes(line, name), number)
 }
 

@@ -20,6 +20,7 @@ use Rattle.chart.specs.Step.{Answer, upTo, leave, enter, listed, firstOf
 use Rattle.chart.proofs.Laws.{path-top, path-cons, level-same}
 use Rattle.chart.proofs.Steps.{settle-is}
 use Rattle.chart.proofs.Walk.{settled-stop, settled-suc, settling-stop, settling-suc}
+use Rattle.chart.specs.Numbers.{longest, mostStates, levels, firstSignal, lastSignal, mostActions}
 
 -- ## Accepted
 pub record Accepted (d : List ℕ) : Type 0 where
@@ -45,19 +46,19 @@ pub among-of : (n s : ℕ) → among n s ≡ true → (1 ≤ s) × (s ≤ n)
 unfolding among
 among-of n s e = (leb-true 1 s (and-left (leb 1 s) (leb s n) e), leb-true s n (and-right (leb 1 s) (leb s n) e))
 
-pub signal-of : (g : ℕ) → isSignal g ≡ true → (4 ≤ g) × (g ≤ 31)
+pub signal-of : (g : ℕ) → isSignal g ≡ true → (firstSignal ≤ g) × (g ≤ lastSignal)
 unfolding isSignal
-signal-of g e = (leb-true 4 g (and-left (leb 4 g) (leb g 31) e), leb-true g 31 (and-right (leb 4 g) (leb g 31) e))
+signal-of g e = (leb-true firstSignal g (and-left (leb firstSignal g) (leb g lastSignal) e), leb-true g lastSignal (and-right (leb firstSignal g) (leb g lastSignal) e))
 
-pub size-of : (d : List ℕ) → lengthOk d ≡ true → length d ≤ 5576
+pub size-of : (d : List ℕ) → lengthOk d ≡ true → length d ≤ longest
 unfolding lengthOk
-size-of d e = leb-true (length d) 5576 (and-right (eqb (length d % 8) 0) _ (and-right (not (eqb (length d) 0)) _ e))
+size-of d e = leb-true (length d) longest (and-right (eqb (length d % 8) 0) _ (and-right (not (eqb (length d) 0)) _ e))
 
-pub few : (n : ℕ) (d : List ℕ) → formsOk n d ≡ true → (1 ≤ n) × (n ≤ 24)
+pub few : (n : ℕ) (d : List ℕ) → formsOk n d ≡ true → (1 ≤ n) × (n ≤ mostStates)
 unfolding formsOk
-few n d e = among-of 24 n (and-right (every (formAt n d) 0 (records d)) _ e)
+few n d e = among-of mostStates n (and-right (every (formAt n d) 0 (records d)) _ e)
 
-pub few-states : (d : List ℕ) → classOf d ≡ 0 → states d ≤ 24
+pub few-states : (d : List ℕ) → classOf d ≡ 0 → states d ≤ mostStates
 few-states d z = few (states d) d (accepted d z .forms) .1
 
 -- a class is one of 0 to 4
@@ -102,7 +103,7 @@ module _ (d : List ℕ) where
       up-longer (suc j) k s e = let z : suc j + k ≡ suc (j + k) = omega arith in rw z (up-stays (j + k) s (up-longer j k s e))
 
   -- the way outward from a state that lies at most six deep, with no bound
-  outward-cons : (s : ℕ) → (s ≡ 0 → ⊥) → up 6 d s ≡ 0 → outward d s ≡ s ∷ outward d (parent d s)
+  outward-cons : (s : ℕ) → (s ≡ 0 → ⊥) → up levels d s ≡ 0 → outward d s ≡ s ∷ outward d (parent d s)
   outward-cons s n e = path-cons d 5 s n ∙ ap (λ p. s ∷ p) (sym (path-stays 5 (parent d s) (unfold up in e)))
 
   path-length : (k s : ℕ) → length (path k d s) ≤ k
@@ -156,8 +157,8 @@ module _ (d : List ℕ) where
       let st = path-stays k x (up-of k x (parent d s) (unfold up in e) g) in
       rw (path-cons d k s n, up-to-more x s (path k d (parent d s)) q, st) (omega arith))
 
-  depth-of : (x s : ℕ) → up 6 d s ≡ 0 → has x (outward d s) ≡ true → length (upTo x (outward d s)) + length (outward d x) ≡ length (outward d s)
-  depth-of x s e h = depth-from 6 x s e h
+  depth-of : (x s : ℕ) → up levels d s ≡ 0 → has x (outward d s) ≡ true → length (upTo x (outward d s)) + length (outward d x) ≡ length (outward d s)
+  depth-of x s e h = depth-from levels x s e h
 
   -- ## Lengths
   listed-length : (a : ℕ) → length (listed a) ≤ 1
@@ -201,17 +202,17 @@ module _ (d : List ℕ) (acc : Accepted d) where
   unfolding treeOk
   top-state = state-of d (topTarget d) (and-left (among (states d) (topTarget d)) (every (stateAt (states d) d) 1 (states d + 1)) (acc .tree))
 
-  pub state-up : (s : ℕ) → State d s → up 6 d s ≡ 0
+  pub state-up : (s : ℕ) → State d s → up levels d s ≡ 0
   unfolding stateOk
   state-up s h =
-      eqb-true (up 6 d s) 0
-      (level-same d 6 s ∙ and-left (leb (length (path 7 d s)) 6) _ (and-right (ltb (getD (recordAt d s) 1 0) s) _ (state-ok s h)))
+      eqb-true (up levels d s) 0
+      (level-same d levels s ∙ and-left (leb (length (path (suc levels) d s)) levels) _ (and-right (ltb (getD (recordAt d s) 1 0) s) _ (state-ok s h)))
 
   initial-in : (s : ℕ) → State d s → (byte d s 4 ≡ 0 → ⊥) → within (states d) d s (byte d s 4) ≡ true
   unfolding stateOk byte
   initial-in s h n =
       cond-else (eqb (getD (recordAt d s) 4 0) 0) _ _ (ne-eqb _ _ n)
-      (and-right (leb (length (path 7 d s)) 6) _ (and-right (ltb (getD (recordAt d s) 1 0) s) _ (state-ok s h)))
+      (and-right (leb (length (path (suc levels) d s)) levels) _ (and-right (ltb (getD (recordAt d s) 1 0) s) _ (state-ok s h)))
 
   initial-state : (s : ℕ) → State d s → (byte d s 4 ≡ 0 → ⊥) → State d (byte d s 4)
   initial-state s h n = state-of d (byte d s 4) (and-left (among (states d) (byte d s 4)) _ (initial-in s h n))
@@ -229,7 +230,7 @@ module _ (d : List ℕ) (acc : Accepted d) where
       let t = byte d s 4 in
       let g = initial-state s h n in
       let u : up 5 d (parent d t) ≡ 0 = unfold up in state-up t g in
-      let v : up 6 d (parent d t) ≡ 0 = up-stays d 5 (parent d t) u in
+      let v : up levels d (parent d t) ≡ 0 = up-stays d 5 (parent d t) u in
       let i = and-right (among (states d) t) (has s (outward d (parent d t))) (initial-in s h n) in
       let e = state-cons t g in
       let f : has s (outward d t) ≡ true = rw e (unfold has in or-right (eqb t s) (has s (outward d (parent d t))) i) in
@@ -237,10 +238,10 @@ module _ (d : List ℕ) (acc : Accepted d) where
       (depth-of d s t (state-up t g) f, omega (arith, depth-of d s (parent d t) v i))
 
   settling-bound : (k s : ℕ) → State d s → length (settling k d s) + 2 * length (outward d s) ≤ 12
-  settling-bound zero s h = unfold settling in omega (arith, path-length d 6 s)
+  settling-bound zero s h = unfold settling in omega (arith, path-length d levels s)
   settling-bound (suc k) s h =
       ⊎-elim
-      (λ e. rw (settling-stop d (suc k) s e) (omega (arith, path-length d 6 s)))
+      (λ e. rw (settling-stop d (suc k) s e) (omega (arith, path-length d levels s)))
       (λ n.
       let t = byte d s 4 in
       let ih = settling-bound k t (initial-state s h n) in
@@ -303,7 +304,7 @@ module _ (d : List ℕ) (acc : Accepted d) where
       (λ e z. let h = first-has p l z in (h .0, or-right (eqb s (firstOf p l)) _ (h .1)))
       n
 
-  moved-bound : (x s t a : ℕ) → State d x → has s (outward d x) ≡ true → State d t → length (moved d x s t a .acts) ≤ 18
+  moved-bound : (x s t a : ℕ) → State d x → has s (outward d x) ≡ true → State d t → length (moved d x s t a .acts) ≤ mostActions
   unfolding moved
   moved-bound x s t a h i g =
       let l = limit d s t in
@@ -311,7 +312,7 @@ module _ (d : List ℕ) (acc : Accepted d) where
       let q = leave d (upTo l (outward d s)) in
       let r = listed a in
       let u = enter d (upTo l (outward d t)) in
-      let v = settling 6 d t in
+      let v = settling levels d t in
       let e0 = length-append (p ++ (q ++ (r ++ u))) v in
       let e1 = length-append p (q ++ (r ++ u)) in
       let e2 = length-append q (r ++ u) in
@@ -322,34 +323,34 @@ module _ (d : List ℕ) (acc : Accepted d) where
       let b4 = listed-length d a in
       let b5 = enter-length d (upTo l (outward d t)) in
       let b6 = up-to-length d l (outward d t) in
-      let b7 = settling-bound 6 t g in
+      let b7 = settling-bound levels t g in
       let b8 : length (outward d t) ≡ suc (length (outward d (parent d t))) = ap length (state-cons t g) in
       let b9 = depth-of d s x (state-up x h) i in
-      rw (settle-is d 6 t (p ++ (q ++ (r ++ u)))) (omega (arith, path-length d 6 x))
+      rw (settle-is d levels t (p ++ (q ++ (r ++ u)))) (omega (arith, path-length d levels x))
 
-  pub start-bound : length (start d .acts) ≤ 18
+  pub start-bound : length (start d .acts) ≤ mostActions
   unfolding start
   start-bound =
       let t = topTarget d in
       let l = listed (topAction d) ++ enter d (outward d t) in
-      let e1 = length-append l (settling 6 d t) in
+      let e1 = length-append l (settling levels d t) in
       let e2 = length-append (listed (topAction d)) (enter d (outward d t)) in
       let b1 = listed-length d (topAction d) in
       let b2 = enter-length d (outward d t) in
-      let b3 = settling-bound 6 t top-state in
-      rw (settle-is d 6 t l) (omega (arith, path-length d 6 t))
+      let b3 = settling-bound levels t top-state in
+      rw (settle-is d levels t l) (omega (arith, path-length d levels t))
 
   pub start-state : State d (start d .next)
   unfolding start
-  start-state = rw (settle-is d 6 (topTarget d) (listed (topAction d) ++ enter d (outward d (topTarget d)))) (settled-state 6 (topTarget d) top-state)
+  start-state = rw (settle-is d levels (topTarget d) (listed (topAction d) ++ enter d (outward d (topTarget d)))) (settled-state levels (topTarget d) top-state)
 
   moved-state : (x s t a : ℕ) → State d t → State d (moved d x s t a .next)
   unfolding moved
-  moved-state x s t a h = rw (settle-is d 6 t _) (settled-state 6 t h)
+  moved-state x s t a h = rw (settle-is d levels t _) (settled-state levels t h)
 
   moved-outcome : (x s t a : ℕ) → moved d x s t a .outcome ≤ 2
   unfolding moved
-  moved-outcome x s t a = rw (settle-is d 6 t _) (omega arith)
+  moved-outcome x s t a = rw (settle-is d levels t _) (omega arith)
 
   -- what holds of each kind of answer holds of a step
   step-cases : (P : Answer → Type 0) (x g : ℕ)
@@ -367,9 +368,9 @@ module _ (d : List ℕ) (acc : Accepted d) where
       cond-pick P (eqb (byte d i 3) 0) _ _ (λ q. f1 i)
       (λ q. f2 s (byte d i 4) (byte d i 5) (w .1) (row-target s g (ltb-true i (records d) (w .0)) (eqb-false (byte d i 3) 0 q))))
 
-  pub step-bound : (x g : ℕ) → State d x → length (step d x g .acts) ≤ 18
+  pub step-bound : (x g : ℕ) → State d x → length (step d x g .acts) ≤ mostActions
   step-bound x g h =
-      step-cases (λ r. length (r .acts) ≤ 18) x g (omega arith)
+      step-cases (λ r. length (r .acts) ≤ mostActions) x g (omega arith)
       (λ i. omega (arith, listed-length d (byte d i 5)))
       (λ s t a i k. moved-bound x s t a h i k)
 
@@ -381,14 +382,14 @@ module _ (d : List ℕ) (acc : Accepted d) where
 
   pub start-outcome : start d .outcome ≤ 2
   unfolding start
-  start-outcome = rw (settle-is d 6 (topTarget d) _) (omega arith)
+  start-outcome = rw (settle-is d levels (topTarget d) _) (omega arith)
 
   -- ## What the bounds of the definitions do not cut off
-  settled-ends-from : (k s : ℕ) → State d s → 6 ≤ k + length (outward d s) → byte d (settled k d s) 4 ≡ 0
+  settled-ends-from : (k s : ℕ) → State d s → levels ≤ k + length (outward d s) → byte d (settled k d s) 4 ≡ 0
   settled-ends-from zero s h b =
       ⊎-elim
       (λ e. rw (settled-stop d zero s e) e)
-      (λ n. absurd (omega (arith, initial-deeper s h n .1, path-length d 6 (byte d s 4))))
+      (λ n. absurd (omega (arith, initial-deeper s h n .1, path-length d levels (byte d s 4))))
       (eq-or (byte d s 4) 0)
   settled-ends-from (suc k) s h b =
       ⊎-elim
@@ -397,5 +398,5 @@ module _ (d : List ℕ) (acc : Accepted d) where
       (eq-or (byte d s 4) 0)
 
   -- six turns are enough: the state reached has no initial target
-  pub settled-ends : (s : ℕ) → State d s → byte d (settled 6 d s) 4 ≡ 0
-  settled-ends s h = settled-ends-from 6 s h (omega arith)
+  pub settled-ends : (s : ℕ) → State d s → byte d (settled levels d s) 4 ≡ 0
+  settled-ends s h = settled-ends-from levels s h (omega arith)

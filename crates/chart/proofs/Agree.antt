@@ -18,12 +18,13 @@ use Rattle.chart.specs.Flat.{Agrees, rowOf, rowNo, rowAt, slotBytes, pla
 use Rattle.chart.specs.Step.{Answer, step, start}
 use Rattle.chart.proofs.Accepted.{Accepted, State, accepted, few-states, signal-of, step-bound, step-state, step-outcome, start-bound, start-state, start-outcome}
 use Rattle.chart.proofs.Rows.{row-length, slot-at, slot-start}
+use Rattle.chart.specs.Numbers.{mostStates, firstSignal, signalCount, rowSize, mostActions}
 
 -- ## A row
-module _ (r : Answer) (h : length (r .acts) ≤ 18) where
-  row-is : rowOf r ≡ r .next ∷ r .outcome ∷ length (r .acts) ∷ (r .acts ++ replicate (18 - length (r .acts) + 3) 0)
+module _ (r : Answer) (h : length (r .acts) ≤ mostActions) where
+  row-is : rowOf r ≡ r .next ∷ r .outcome ∷ length (r .acts) ∷ (r .acts ++ replicate (mostActions - length (r .acts) + 3) 0)
   unfolding rowOf
-  row-is = rw (padded-short 18 (r .acts) h, append-assoc, replicate-append-replicate)
+  row-is = rw (padded-short mostActions (r .acts) h, append-assoc, replicate-append-replicate)
 
   pub answer-of : answerOf (rowOf r) ≡ r
   unfolding answerOf
@@ -33,25 +34,25 @@ module _ (r : Answer) (h : length (r .acts) ≤ 18) where
   unused j l =
       let i = j - 3 - length (r .acts) in
       let e : j ≡ suc (suc (suc (length (r .acts) + i))) = omega arith in
-      rw (row-is, e) (getD-append-add (r .acts) _ i 0 ∙ zeros-at (18 - length (r .acts) + 3) i)
+      rw (row-is, e) (getD-append-add (r .acts) _ i 0 ∙ zeros-at (mostActions - length (r .acts) + 3) i)
 
   head : (getD (rowOf r) 0 0 ≡ r .next) × (getD (rowOf r) 1 0 ≡ r .outcome) × (getD (rowOf r) 2 0 ≡ length (r .acts))
   unfolding rowOf
   head = (refl, refl, refl)
 
-  pub row-sound : 1 ≤ r .next → r .next ≤ 24 → r .outcome ≤ 2 → sound (rowOf r) ≡ true
+  pub row-sound : 1 ≤ r .next → r .next ≤ mostStates → r .outcome ≤ 2 → sound (rowOf r) ≡ true
   unfolding sound among blank
   row-sound a b c =
-      let e = every-all (λ j. eqb (getD (rowOf r) j 0) 0) (3 + length (r .acts)) 24 (λ j l u. eq-eqb _ 0 (unused j l)) in
+      let e = every-all (λ j. eqb (getD (rowOf r) j 0) 0) (3 + length (r .acts)) rowSize (λ j l u. eq-eqb _ 0 (unused j l)) in
       rw (
-        eq-eqb (length (rowOf r)) 24 (row-length r),
+        eq-eqb (length (rowOf r)) rowSize (row-length r),
         head .0,
         head .1,
         head .2,
         le-leb 1 (r .next) a,
-        le-leb (r .next) 24 b,
+        le-leb (r .next) mostStates b,
         le-leb (r .outcome) 2 c,
-        le-leb (length (r .acts)) 18 h,
+        le-leb (length (r .acts)) mostActions h,
       )
       e
 
@@ -60,7 +61,7 @@ module _ (d : List ℕ) (z : classOf d ≡ 0) where
   acc : Accepted d
   acc = accepted d z
 
-  row-is-step : (s g k : ℕ) → State d s → k / 28 + 1 ≡ s → k % 28 + 4 ≡ g → rowNo d k ≡ rowOf (step d s g)
+  row-is-step : (s g k : ℕ) → State d s → k / signalCount + 1 ≡ s → k % signalCount + firstSignal ≡ g → rowNo d k ≡ rowOf (step d s g)
   unfolding rowNo
   row-is-step s g k h e f = rw (e, f, le-leb s (states d) (h .high))
 
@@ -71,7 +72,7 @@ module _ (d : List ℕ) (z : classOf d ≡ 0) where
       let u = h .high in
       let b = signal-of g e in
       let n = few-states d z in
-      let k = 28 * (s - 1) + (g - 4) in
+      let k = signalCount * (s - 1) + (g - firstSignal) in
       slot-at d k (omega arith) ∙ row-is-step s g k h (omega arith) (omega arith)
 
   pub step-sound : (s g : ℕ) → State d s → sound (rowOf (step d s g)) ≡ true

@@ -15,36 +15,37 @@ use Rattle.ground.specs.Tab.{length-tab, getD-tab, tab-constant, tab-ext, tab-s
 use Rattle.chart.specs.Chart.{among, byte, isSignal, recordAt, records, rowFor, states}
 use Rattle.chart.specs.Held.{Ready, indexFrom, isRow, noted, rowIndex, rowNumber}
 use Rattle.chart.proofs.Accepted.{among-of, signal-of, few-states}
+use Rattle.chart.specs.Numbers.{mostStates, firstSignal, lastSignal, signalCount, rowCount}
 
 not-both : (a b : Bool) → (a ≡ true → b ≡ true) → b ≡ false → a ≡ false
 not-both true b f e = no-yes (sym e ∙ f refl)
 not-both false b f e = refl
 
 module _ (d : List ℕ) where
-  pub index-none : (e : ℕ) → e ≡ records d → replicate 672 e ≡ indexFrom d e
+  pub index-none : (e : ℕ) → e ≡ records d → replicate rowCount e ≡ indexFrom d e
   unfolding indexFrom
   index-none e q =
-      sym (tab-constant (λ k. firstFrom (isRow d k) e (records d - e)) 0 672 e (λ k. first-end (isRow d k) e (records d) (omega arith)))
+      sym (tab-constant (λ k. firstFrom (isRow d k) e (records d - e)) 0 rowCount e (λ k. first-end (isRow d k) e (records d) (omega arith)))
 
   pub index-done : indexFrom d 0 ≡ rowIndex d
   unfolding indexFrom rowIndex rowFor
   index-done = rw sub-zero
 
-  pub length-from : (i : ℕ) → length (indexFrom d i) ≡ 672
+  pub length-from : (i : ℕ) → length (indexFrom d i) ≡ rowCount
   unfolding indexFrom
-  length-from i = length-tab (λ k. firstFrom (isRow d k) i (records d - i)) 672
+  length-from i = length-tab (λ k. firstFrom (isRow d k) i (records d - i)) rowCount
 
-  pub length-index : length (rowIndex d) ≡ 672
+  pub length-index : length (rowIndex d) ≡ rowCount
   unfolding rowIndex
-  length-index = length-tab (λ k. rowFor d (k / 28 + 1) (k % 28 + 4)) 672
+  length-index = length-tab (λ k. rowFor d (k / signalCount + 1) (k % signalCount + firstSignal)) rowCount
 
-  pub index-at : (s g : ℕ) → 1 ≤ s → s ≤ 24 → 4 ≤ g → g ≤ 31 → getD (rowIndex d) (rowNumber s g) 0 ≡ rowFor d s g
+  pub index-at : (s g : ℕ) → 1 ≤ s → s ≤ mostStates → firstSignal ≤ g → g ≤ lastSignal → getD (rowIndex d) (rowNumber s g) 0 ≡ rowFor d s g
   unfolding rowIndex
   index-at s g h1 h2 h3 h4 =
       let k = rowNumber s g in
-      let e : k / 28 + 1 ≡ s = omega arith in
-      let f : k % 28 + 4 ≡ g = omega arith in
-      getD-tab (λ k. rowFor d (k / 28 + 1) (k % 28 + 4)) 672 k 0 (omega arith) ∙ rw (e, f)
+      let e : k / signalCount + 1 ≡ s = omega arith in
+      let f : k % signalCount + firstSignal ≡ g = omega arith in
+      getD-tab (λ k. rowFor d (k / signalCount + 1) (k % signalCount + firstSignal)) rowCount k 0 (omega arith) ∙ rw (e, f)
 
   -- The turn at record i, whose kind, state and signal are k, s and g.
   module _ (i : ℕ) (h : i < records d) where
@@ -55,39 +56,39 @@ module _ (d : List ℕ) where
     here k = firstFrom (isRow d k) i (records d - i)
 
     abbrev is-row : Bool
-    is-row = eqb (byte d i 0) 2 && (among 24 (byte d i 1) && isSignal (byte d i 2))
+    is-row = eqb (byte d i 0) 2 && (among mostStates (byte d i 1) && isSignal (byte d i 2))
 
-    parts : (j : ℕ) → isRow d j i ≡ true → (byte d i 0 ≡ 2) × (byte d i 1 ≡ j / 28 + 1) × (byte d i 2 ≡ j % 28 + 4)
+    parts : (j : ℕ) → isRow d j i ≡ true → (byte d i 0 ≡ 2) × (byte d i 1 ≡ j / signalCount + 1) × (byte d i 2 ≡ j % signalCount + firstSignal)
     parts j e =
-        let r = and-right (eqb (byte d i 0) 2) (eqb (byte d i 1) (j / 28 + 1) && eqb (byte d i 2) (j % 28 + 4)) e in (
+        let r = and-right (eqb (byte d i 0) 2) (eqb (byte d i 1) (j / signalCount + 1) && eqb (byte d i 2) (j % signalCount + firstSignal)) e in (
           eqb-true (byte d i 0) 2 (and-left (eqb (byte d i 0) 2) _ e),
-          eqb-true (byte d i 1) (j / 28 + 1) (and-left (eqb (byte d i 1) (j / 28 + 1)) _ r),
-          eqb-true (byte d i 2) (j % 28 + 4) (and-right (eqb (byte d i 1) (j / 28 + 1)) _ r),
+          eqb-true (byte d i 1) (j / signalCount + 1) (and-left (eqb (byte d i 1) (j / signalCount + 1)) _ r),
+          eqb-true (byte d i 2) (j % signalCount + firstSignal) (and-right (eqb (byte d i 1) (j / signalCount + 1)) _ r),
         )
 
     -- a record that is a row of a place of the index is a row
-    row-of-place : (j : ℕ) → j < 672 → isRow d j i ≡ true → is-row ≡ true
+    row-of-place : (j : ℕ) → j < rowCount → isRow d j i ≡ true → is-row ≡ true
     unfolding among isSignal
     row-of-place j l e =
         let p = parts j e in
         let s = p .1 in
         let g = p .2 in
-        rw (eq-eqb (byte d i 0) 2 (p .0), le-leb 1 (byte d i 1) (omega arith), le-leb (byte d i 1) 24 (omega arith), le-leb 4 (byte d i 2) (omega arith), le-leb (byte d i 2) 31 (omega arith))
+        rw (eq-eqb (byte d i 0) 2 (p .0), le-leb 1 (byte d i 1) (omega arith), le-leb (byte d i 1) mostStates (omega arith), le-leb firstSignal (byte d i 2) (omega arith), le-leb (byte d i 2) lastSignal (omega arith))
 
-    other : is-row ≡ false → tab here 672 ≡ tab later 672
-    other e = tab-ext here later 672 (λ j l. first-miss (isRow d j) i (records d) h (not-both (isRow d j i) is-row (row-of-place j l) e))
+    other : is-row ≡ false → tab here rowCount ≡ tab later rowCount
+    other e = tab-ext here later rowCount (λ j l. first-miss (isRow d j) i (records d) h (not-both (isRow d j i) is-row (row-of-place j l) e))
 
-    row : is-row ≡ true → tab here 672 ≡ set (tab later 672) (rowNumber (byte d i 1) (byte d i 2)) i
+    row : is-row ≡ true → tab here rowCount ≡ set (tab later rowCount) (rowNumber (byte d i 1) (byte d i 2)) i
     row e =
         let k = and-left (eqb (byte d i 0) 2) _ e in
-        let r = and-right (eqb (byte d i 0) 2) (among 24 (byte d i 1) && isSignal (byte d i 2)) e in
-        let a = among-of 24 (byte d i 1) (and-left (among 24 (byte d i 1)) _ r) in
-        let b = signal-of (byte d i 2) (and-right (among 24 (byte d i 1)) _ r) in
+        let r = and-right (eqb (byte d i 0) 2) (among mostStates (byte d i 1) && isSignal (byte d i 2)) e in
+        let a = among-of mostStates (byte d i 1) (and-left (among mostStates (byte d i 1)) _ r) in
+        let b = signal-of (byte d i 2) (and-right (among mostStates (byte d i 1)) _ r) in
         let n = rowNumber (byte d i 1) (byte d i 2) in
-        let u : byte d i 1 ≡ n / 28 + 1 = omega arith in
-        let v : byte d i 2 ≡ n % 28 + 4 = omega arith in
-        let t = and-both (eqb (byte d i 0) 2) _ k (and-both _ _ (eq-eqb (byte d i 1) (n / 28 + 1) u) (eq-eqb (byte d i 2) (n % 28 + 4) v)) in
-        tab-set later here 672 n i (omega arith) (first-hit (isRow d n) i (records d) h t)
+        let u : byte d i 1 ≡ n / signalCount + 1 = omega arith in
+        let v : byte d i 2 ≡ n % signalCount + firstSignal = omega arith in
+        let t = and-both (eqb (byte d i 0) 2) _ k (and-both _ _ (eq-eqb (byte d i 1) (n / signalCount + 1) u) (eq-eqb (byte d i 2) (n % signalCount + firstSignal) v)) in
+        tab-set later here rowCount n i (omega arith) (first-hit (isRow d n) i (records d) h t)
         (λ j l ne. first-miss (isRow d j) i (records d) h (is-false (isRow d j i) (λ q. ne (let p = parts j q in omega (arith, p .1, p .2)))))
       where
         is-false : (b : Bool) → (b ≡ true → ⊥) → b ≡ false
@@ -98,7 +99,7 @@ module _ (d : List ℕ) where
     unfolding noted indexFrom byte
     index-turn r e = rw e (go is-row refl)
       where
-        go : (b : Bool) → is-row ≡ b → cond b (set (tab later 672) (rowNumber (byte d i 1) (byte d i 2)) i) (tab later 672) ≡ tab here 672
+        go : (b : Bool) → is-row ≡ b → cond b (set (tab later rowCount) (rowNumber (byte d i 1) (byte d i 2)) i) (tab later rowCount) ≡ tab here rowCount
         go true q = sym (row q)
         go false q = sym (other q)
 

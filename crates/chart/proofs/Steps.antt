@@ -11,6 +11,7 @@ use Rattle.chart.specs.Held.{noActs, pushAll, settled, settling, settled
 use Rattle.chart.specs.Step.{upTo, leave, enter, listed, limit, source, settle, moved, start, step}
 use Rattle.chart.specs.declared.step.Out.{Out}
 use Rattle.chart.proofs.Walk.{push-append, up-to-top, settled-stop, settled-suc, settling-stop, settling-suc}
+use Rattle.chart.specs.Numbers.{levels}
 
 module _ (d : List ℕ) where
   settle-stop : (k s : ℕ) (l : List ℕ) → byte d s 4 ≡ 0 → settle k d s l ≡ record { next = s; outcome = 2; acts = l }
@@ -43,19 +44,19 @@ module _ (d : List ℕ) where
       (λ n. rw (z, settle-suc (j + k) s l n, settle-suc k s l n) (settle-longer j k (byte d s 4) _ (rw (settled-suc d k s n) at e)))
       (eq-or (byte d s 4) 0)
 
-  settle-out : (t : ℕ) (l : List ℕ) → outOf (settle 6 d t l) ≡ settledOut d t (pushAll noActs l)
+  settle-out : (t : ℕ) (l : List ℕ) → outOf (settle levels d t l) ≡ settledOut d t (pushAll noActs l)
   unfolding outOf settledOut
-  settle-out t l = rw (settle-is 6 t l, push-append noActs l (settling 6 d t))
+  settle-out t l = rw (settle-is levels t l, push-append noActs l (settling levels d t))
 
   pub moved-out : (x s t a l : ℕ) → l ≡ limit d s t
-      → settledOut d t (pushAll (pushAll (pushAll (pushAll noActs (leave d (upTo s (path 6 d x)))) (leave d (upTo l (path 6 d s)))) (listed a)) (enter d (upTo l (path 6 d t))))
+      → settledOut d t (pushAll (pushAll (pushAll (pushAll noActs (leave d (upTo s (path levels d x)))) (leave d (upTo l (path levels d s)))) (listed a)) (enter d (upTo l (path levels d t))))
       ≡ outOf (moved d x s t a)
   unfolding moved
   moved-out x s t a l e = rw (e) (ap (settledOut d t) (push-append _ _ _ ∙ push-append _ _ _ ∙ push-append _ _ _) ∙ sym (settle-out t _))
 
-  pub start-out : settledOut d (topTarget d) (pushAll (pushAll noActs (listed (topAction d))) (enter d (upTo 0 (path 6 d (topTarget d))))) ≡ outOf (start d)
+  pub start-out : settledOut d (topTarget d) (pushAll (pushAll noActs (listed (topAction d))) (enter d (upTo 0 (path levels d (topTarget d))))) ≡ outOf (start d)
   unfolding start
-  start-out = rw (up-to-top d 6 (topTarget d)) (ap (settledOut d (topTarget d)) (push-append _ _ _) ∙ sym (settle-out (topTarget d) _))
+  start-out = rw (up-to-top d levels (topTarget d)) (ap (settledOut d (topTarget d)) (push-append _ _ _) ∙ sym (settle-out (topTarget d) _))
 
   pub step-ignored : (x g : ℕ) → source d x g ≡ 0 → _≡_ {A = Out} (record { next = x; outcome = 0; acts = noActs }) (outOf (step d x g))
   unfolding outOf step pushAll

@@ -12,6 +12,7 @@ use Rattle.chart.specs.Step.{firstOf, upTo, leave, enter, listed}
 use Rattle.chart.specs.declared.step.Acts.{Acts}
 use Rattle.chart.specs.declared.step.Out.{Out}
 use Rattle.chart.proofs.Laws.{sub-more, sub-none, path-top, path-cons, path-more, path-done}
+use Rattle.chart.specs.Numbers.{levels}
 
 path-none : (d : List ℕ) (k s : ℕ) → k ≡ 0 → path k d s ≡ []
 unfolding path
@@ -30,15 +31,15 @@ module _ (p : ℕ → Bool) (d : List ℕ) where
   unfolding firstOf
   first-of-top k s e = rw (path-top d k s e)
 
-  pub first-of-found : (k s : ℕ) → k < 6 → (s ≡ 0 → ⊥) → p s ≡ true → firstOf p (path (6 - k) d s) ≡ s
+  pub first-of-found : (k s : ℕ) → k < levels → (s ≡ 0 → ⊥) → p s ≡ true → firstOf p (path (levels - k) d s) ≡ s
   unfolding firstOf
   first-of-found k s h n t = rw (path-more d k s h n, t)
 
-  pub first-of-more : (k s : ℕ) → k < 6 → (s ≡ 0 → ⊥) → p s ≡ false → firstOf p (path (6 - k) d s) ≡ firstOf p (path (6 - (k + 1)) d (parent d s))
+  pub first-of-more : (k s : ℕ) → k < levels → (s ≡ 0 → ⊥) → p s ≡ false → firstOf p (path (levels - k) d s) ≡ firstOf p (path (levels - (k + 1)) d (parent d s))
   unfolding firstOf
   first-of-more k s h n t = rw (path-more d k s h n, t)
 
-  pub first-of-done : (k s : ℕ) → 6 ≤ k → firstOf p (path (6 - k) d s) ≡ 0
+  pub first-of-done : (k s : ℕ) → levels ≤ k → firstOf p (path (levels - k) d s) ≡ 0
   unfolding firstOf
   first-of-done k s h = rw (path-done d k s h)
 
@@ -47,16 +48,16 @@ module _ (d : List ℕ) (l : ℕ) where
   unfolding upTo leave
   leave-top k s e = rw (path-top d k s e)
 
-  pub leave-at : (k s : ℕ) → k < 6 → (s ≡ 0 → ⊥) → s ≡ l → leave d (upTo l (path (6 - k) d s)) ≡ []
+  pub leave-at : (k s : ℕ) → k < levels → (s ≡ 0 → ⊥) → s ≡ l → leave d (upTo l (path (levels - k) d s)) ≡ []
   unfolding upTo leave
   leave-at k s h n e = rw (path-more d k s h n, eq-eqb s l e)
 
-  pub leave-more : (k s : ℕ) → k < 6 → (s ≡ 0 → ⊥) → (s ≡ l → ⊥)
-      → leave d (upTo l (path (6 - k) d s)) ≡ listed (byte d s 3) ++ leave d (upTo l (path (6 - (k + 1)) d (parent d s)))
+  pub leave-more : (k s : ℕ) → k < levels → (s ≡ 0 → ⊥) → (s ≡ l → ⊥)
+      → leave d (upTo l (path (levels - k) d s)) ≡ listed (byte d s 3) ++ leave d (upTo l (path (levels - (k + 1)) d (parent d s)))
   unfolding upTo leave
   leave-more k s h n e = rw (path-more d k s h n, ne-eqb s l e)
 
-  pub leave-done : (k s : ℕ) → 6 ≤ k → leave d (upTo l (path (6 - k) d s)) ≡ []
+  pub leave-done : (k s : ℕ) → levels ≤ k → leave d (upTo l (path (levels - k) d s)) ≡ []
   unfolding upTo leave
   leave-done k s h = rw (path-done d k s h)
 
@@ -118,25 +119,25 @@ module _ (d : List ℕ) where
   settled-suc k s n = rw (ne-eqb (byte d s 4) 0 n)
 
   pub settling-suc : (k s : ℕ) → (byte d s 4 ≡ 0 → ⊥)
-      → settling (suc k) d s ≡ listed (byte d s 5) ++ (enter d (upTo s (path 6 d (byte d s 4))) ++ settling k d (byte d s 4))
+      → settling (suc k) d s ≡ listed (byte d s 5) ++ (enter d (upTo s (path levels d (byte d s 4))) ++ settling k d (byte d s 4))
   unfolding settling
   settling-suc k s n = rw (ne-eqb (byte d s 4) 0 n)
 
-  pub settled-more : (k s : ℕ) → k < 6 → (byte d s 4 ≡ 0 → ⊥) → settled (6 - k) d s ≡ settled (6 - (k + 1)) d (byte d s 4)
-  settled-more k s h n = rw (sub-more k 6 h) (settled-suc (6 - (k + 1)) s n)
+  pub settled-more : (k s : ℕ) → k < levels → (byte d s 4 ≡ 0 → ⊥) → settled (levels - k) d s ≡ settled (levels - (k + 1)) d (byte d s 4)
+  settled-more k s h n = rw (sub-more k levels h) (settled-suc (levels - (k + 1)) s n)
 
-  pub settling-more : (k s : ℕ) → k < 6 → (byte d s 4 ≡ 0 → ⊥)
-      → settling (6 - k) d s ≡ listed (byte d s 5) ++ (enter d (upTo s (path 6 d (byte d s 4))) ++ settling (6 - (k + 1)) d (byte d s 4))
-  settling-more k s h n = rw (sub-more k 6 h) (settling-suc (6 - (k + 1)) s n)
+  pub settling-more : (k s : ℕ) → k < levels → (byte d s 4 ≡ 0 → ⊥)
+      → settling (levels - k) d s ≡ listed (byte d s 5) ++ (enter d (upTo s (path levels d (byte d s 4))) ++ settling (levels - (k + 1)) d (byte d s 4))
+  settling-more k s h n = rw (sub-more k levels h) (settling-suc (levels - (k + 1)) s n)
 
-  pub settled-done : (k s : ℕ) → 6 ≤ k → settled (6 - k) d s ≡ s
+  pub settled-done : (k s : ℕ) → levels ≤ k → settled (levels - k) d s ≡ s
   unfolding settled
-  settled-done k s h = rw (sub-none k 6 h)
+  settled-done k s h = rw (sub-none k levels h)
 
-  pub settling-done : (k s : ℕ) → 6 ≤ k → settling (6 - k) d s ≡ []
+  pub settling-done : (k s : ℕ) → levels ≤ k → settling (levels - k) d s ≡ []
   unfolding settling
-  settling-done k s h = rw (sub-none k 6 h)
+  settling-done k s h = rw (sub-none k levels h)
 
-  pub settled-out : (t x : ℕ) (r q : Acts) → x ≡ settled 6 d t → q ≡ pushAll r (settling 6 d t) → _≡_ {A = Out} (record { next = x; outcome = 2; acts = q }) (settledOut d t r)
+  pub settled-out : (t x : ℕ) (r q : Acts) → x ≡ settled levels d t → q ≡ pushAll r (settling levels d t) → _≡_ {A = Out} (record { next = x; outcome = 2; acts = q }) (settledOut d t r)
   unfolding settledOut
   settled-out t x r q e f = λ i. record { next = e i; outcome = 2; acts = f i }

@@ -7,7 +7,7 @@ use lib.Dec.{leb, eqb}
 use lib.ListN.{length, replicate, take, drop, getD}
 use Rattle.ground.specs.Bytes.{blank, padded}
 use Rattle.chart.specs.Chart.{states, classOf, among, isSignal}
-use Rattle.chart.specs.Numbers.{mostStates, firstSignal, rowSize, slotSize, mostActions}
+use Rattle.chart.specs.Numbers.{mostStates, firstSignal, signalCount, rowSize, rowCount, slotSize, mostActions}
 use Rattle.chart.specs.Step.{Answer, step, start}
 
 -- A row: next state, outcome, count, 18 actions of which the unused are 0, 3 zeros.
@@ -16,7 +16,7 @@ rowOf r = r .next ∷ r .outcome ∷ length (r .acts) ∷ (padded mostActions (r
 
 -- Row k behind the start row is that of state k / 28 + 1 and signal k % 28 + 4, all 0 if the state is absent.
 unfoldable pub rowNo : List ℕ → ℕ → List ℕ
-rowNo d k = cond (leb (k / 28 + 1) (states d)) (rowOf (step d (k / 28 + 1) (k % 28 + firstSignal))) (replicate rowSize 0)
+rowNo d k = cond (leb (k / signalCount + 1) (states d)) (rowOf (step d (k / signalCount + 1) (k % signalCount + firstSignal))) (replicate rowSize 0)
 
 -- n rows from row k on.
 unfoldable pub rowsFrom : List ℕ → ℕ → ℕ → List ℕ
@@ -24,7 +24,7 @@ rowsFrom d k zero = []
 rowsFrom d k (suc n) = rowNo d k ++ rowsFrom d (suc k) n
 
 unfoldable pub slotBytes : List ℕ → List ℕ
-slotBytes d = rowOf (start d) ++ rowsFrom d 0 672
+slotBytes d = rowOf (start d) ++ rowsFrom d 0 rowCount
 
 -- What the flattener answers, and what the table then holds.
 unfoldable pub flattened : List ℕ → List ℕ → ℕ × List ℕ
@@ -32,7 +32,7 @@ flattened d t = cond (eqb (classOf d) 0) (cond (eqb (length t) slotSize) (0, slo
 
 -- Where the row for state s and signal g begins, and the row at a place of a table.
 unfoldable pub place : ℕ → ℕ → ℕ
-place s g = rowSize + rowSize * (28 * (s - 1) + (g - firstSignal))
+place s g = rowSize + rowSize * (signalCount * (s - 1) + (g - firstSignal))
 
 abbrev pub rowAt : List ℕ → ℕ → List ℕ
 rowAt t at = take rowSize (drop at t)

@@ -7,7 +7,7 @@ use lib.Dec.{eqb, leb, ltb}
 use lib.ListN.{getD, replicate, set}
 use Rattle.ground.specs.Range.{tab, firstFrom}
 use Rattle.chart.specs.Chart.{classOf, states, records, recordAt, byte, parent, initial, initialAction, key, among, isSignal, formOk, stateOk, rowOk, rowFor, outward, has}
-use Rattle.chart.specs.Numbers.{mostStates, mostActions}
+use Rattle.chart.specs.Numbers.{mostStates, levels, firstSignal, lastSignal, signalCount, rowCount, mostActions}
 use Rattle.chart.specs.Step.{Answer, listed, upTo, enter, firstOf}
 use Rattle.chart.specs.declared.step.Acts.{Acts}
 use Rattle.chart.specs.declared.step.Out.{Out}
@@ -77,7 +77,7 @@ outOf r = record { next = r .next; outcome = r .outcome; acts = pushAll noActs (
 
 -- the end of a transition at t, behind what was listed before
 unfoldable pub settledOut : List ℕ → ℕ → Acts → Out
-settledOut d t r = record { next = settled 6 d t; outcome = 2; acts = pushAll r (settling 6 d t) }
+settledOut d t r = record { next = settled levels d t; outcome = 2; acts = pushAll r (settling levels d t) }
 
 unfoldable pub rowBytes : Out → List ℕ
 rowBytes r = r .next ∷ r .outcome ∷ r .acts .n ∷ (r .acts .a ++ replicate 3 0)
@@ -85,17 +85,17 @@ rowBytes r = r .next ∷ r .outcome ∷ r .acts .n ∷ (r .acts .a ++ replicate 
 -- ## The index of the rows
 -- the number of the row for state s and signal g behind the start row
 abbrev pub rowNumber : ℕ → ℕ → ℕ
-rowNumber s g = 28 * (s - 1) + (g - 4)
+rowNumber s g = signalCount * (s - 1) + (g - firstSignal)
 
 abbrev pub isRow : List ℕ → ℕ → ℕ → Bool
-isRow d k i = eqb (byte d i 0) 2 && (eqb (byte d i 1) (k / 28 + 1) && eqb (byte d i 2) (k % 28 + 4))
+isRow d k i = eqb (byte d i 0) 2 && (eqb (byte d i 1) (k / signalCount + 1) && eqb (byte d i 2) (k % signalCount + firstSignal))
 
 -- as far as the records from i on tell
 unfoldable pub indexFrom : List ℕ → ℕ → List ℕ
-indexFrom d i = tab (λ k. firstFrom (isRow d k) i (records d - i)) 672
+indexFrom d i = tab (λ k. firstFrom (isRow d k) i (records d - i)) rowCount
 
 unfoldable pub rowIndex : List ℕ → List ℕ
-rowIndex d = tab (λ k. rowFor d (k / 28 + 1) (k % 28 + 4)) 672
+rowIndex d = tab (λ k. rowFor d (k / signalCount + 1) (k % signalCount + firstSignal)) rowCount
 
 -- record i, whose bytes are r, entered into an index
 unfoldable pub noted : List ℕ → ℕ → List ℕ → List ℕ
@@ -108,4 +108,4 @@ pub record Ready (d index : List ℕ) (x g : ℕ) : Type 0 where
   pub good : classOf d ≡ 0
   pub indexed : index ≡ rowIndex d
   pub state : (1 ≤ x) × (x ≤ states d)
-  pub signal : (4 ≤ g) × (g ≤ 31)
+  pub signal : (firstSignal ≤ g) × (g ≤ lastSignal)

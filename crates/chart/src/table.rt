@@ -6,7 +6,7 @@ ghost use lib.ListN.{drop, getD, length};
 ghost use Rattle.chart.specs.Chart.{classOf, states};
 ghost use Rattle.chart.specs.Flat.{rowNo, slotBytes};
 ghost use Rattle.chart.specs.Held.{Ready, noted, outOf, rowBytes, rowIndex, rowNumber};
-ghost use Rattle.chart.specs.Numbers.{firstSignal, lastSignal, longest, mostStates, rowSize, slotSize};
+ghost use Rattle.chart.specs.Numbers.{firstSignal, lastSignal, longest, mostStates, rowCount, rowSize, slotSize};
 ghost use Rattle.chart.specs.Step.{source, step};
 use super::read::*;
 use super::step::*;
@@ -47,7 +47,7 @@ fn record_number(x: u16) -> usize
 
 // Enters record i, if it is a row, into the index.
 fn note(index: &mut [u16; ROWS], part: &[u8], i: u16)
-    requires { ⌜ (8 ≤ length (now part)) × (length (now index) ≡ 672) ⌝ }
+    requires { ⌜ (8 ≤ length (now part)) × (length (now index) ≡ rowCount) ⌝ }
     ensures { λ _. ⌜ now (index .exit) ≡ noted (now (part .entry)) i (now (index .entry)) ⌝ }
 {
     if part[0] != 2 {
@@ -82,7 +82,7 @@ fn index_rows(chart: &[u8]) -> [u16; ROWS]
 
 // The record of the row for state s and signal g, by the index.
 fn row_of(index: &[u16; ROWS], s: u8, g: u8) -> usize
-    requires { ⌜ (length (now index) ≡ 672) × (s ≤ mostStates) × (firstSignal ≤ g) × (g ≤ lastSignal) ⌝ }
+    requires { ⌜ (length (now index) ≡ rowCount) × (s ≤ mostStates) × (firstSignal ≤ g) × (g ≤ lastSignal) ⌝ }
     ensures { λ r. ⌜ (r ≡ getD (now (index .entry)) (rowNumber s g) 0) × (r < 65536) ⌝ }
 {
     let k = row_number(s, g);
@@ -136,7 +136,7 @@ fn step_of(chart: &[u8], index: &[u16; ROWS], x: u8, g: u8) -> Out
 
 // Row k behind the start row, of a chart with n states.
 fn row_no(chart: &[u8], index: &[u16; ROWS], n: usize, k: usize) -> Out
-    requires { ⌜ (classOf (now chart) ≡ 0) × (now index ≡ rowIndex (now chart)) × (n ≡ states (now chart)) × (k < 672) ⌝ }
+    requires { ⌜ (classOf (now chart) ≡ 0) × (now index ≡ rowIndex (now chart)) × (n ≡ states (now chart)) × (k < rowCount) ⌝ }
     ensures { λ r. ⌜ rowBytes r ≡ rowNo (now (chart .entry)) k ⌝ }
 {
     let s = k / SIGNALS + 1;

@@ -4,7 +4,6 @@
 //     POST 0 0 9 2 = 0 0 0 0 1
 // FRESH begins a trace, with a fresh kernel and areas of zeros. Remarks and empty lines are written as they are.
 // So the program has to write what it reads: stdout is a copy of stdin.
-ghost use Prim.Native.Nat.{_≤_};
 ghost use Rattle.state.specs.View.{Good};
 use kernel::Kernel;
 use numbers::LOG_AREA;
@@ -30,7 +29,6 @@ fn answer_record(
     log: &mut [u8],
 ) -> Kernel
     requires { ⌜ Good k ⌝ }
-    requires { ⌜ line .n ≤ 192 ⌝ }
     ensures { λ r. ⌜ Good r ⌝ }
 {
     let bytes = record.bytes;
@@ -46,7 +44,7 @@ fn turn(run: Run, payloads: &mut [u8], tables: &mut [u8], log: &mut [u8]) -> Run
     requires { ⌜ Good (run .kernel) ⌝ }
     ensures { λ r. ⌜ Good (r .kernel) ⌝ }
 {
-    let reading = words::read_line();
+    let reading = words::read_line(true);
     if !reading.is_there {
         return Run {
             is_open: false,

@@ -9,7 +9,7 @@ fn complain(line: u64) {
 
 // Writes the record of the next line, and answers whether there may be another line.
 fn encode_line(number: u64) -> bool {
-    let line = words::read_line();
+    let line = words::read_line(false);
     let record = line.record;
     if record.is_wrong || record.name == words::FRESH {
         complain(number);

@@ -16,11 +16,11 @@ use Rattle.chart.specs.Chart.{classOf}
 use Rattle.chart.specs.Flat.{flattened, rowAt, slotBytes}
 use Rattle.chart.specs.Numbers.{rowSize, slotSize}
 use Rattle.machine.proofs.Blocks.{place-end}
-use Rattle.machine.specs.Numbers.{capacity, payloadBytes, placeOf, slots, tableBytes}
+use Rattle.machine.specs.Numbers.{blocks, capacity, payloadBytes, placeOf, slots, tableBytes}
 use Rattle.machine.specs.Reply.{over}
 
 -- the place of block b, filled from p
-pub put-over : (b at n : ℕ) (l p v : List ℕ) → b < 56 → length l ≡ payloadBytes → at ≡ placeOf b → n ≡ capacity b → v ≡ padded (length (take n (drop at l))) p →
+pub put-over : (b at n : ℕ) (l p v : List ℕ) → b < blocks → length l ≡ payloadBytes → at ≡ placeOf b → n ≡ capacity b → v ≡ padded (length (take n (drop at l))) p →
     take at l ++ (v ++ drop n (drop at l)) ≡ over l (placeOf b) (padded (capacity b) p)
 unfolding over
 put-over b at n l p v h e f g r =

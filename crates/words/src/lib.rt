@@ -9,7 +9,6 @@
 //     19 1 2                                  a number for a name: a command record of just these bytes, then 0
 //     PIECE 16 0                              as many bytes as are given
 //     FRESH                                   no record, but a mark: here a trace begins
-ghost use Prim.Native.Nat.{_≤_};
 use check::same;
 use input::Letter;
 use numbers::RECORD_BYTES;
@@ -56,12 +55,13 @@ pub struct Record {
     at: usize,
 }
 
-// A line, as far as it was read: its text up to `=`, and the record that it gives.
+// A line, as far as it was read: its text up to `=`, if that is kept, and the record that it gives.
 pub struct Reading {
     pub is_there: bool,
     pub text: Line,
     pub record: Record,
     word: Word,
+    is_kept: bool,
     is_comment: bool,
     is_answer: bool,
     is_whole: bool,
@@ -86,14 +86,13 @@ fn no_record() -> Record {
     }
 }
 
-fn no_line() -> Reading
-    ensures { λ r. ⌜ r .text .n ≤ 192 ⌝ }
-{
+fn no_line(is_kept: bool) -> Reading {
     Reading {
         is_there: false,
         text: text::empty(),
         record: no_record(),
         word: no_word(),
+        is_kept,
         is_comment: false,
         is_answer: false,
         is_whole: false,
@@ -129,11 +128,8 @@ fn named(other: u8, word: &[u8], name: &[u8], number: u8) -> u8 {
     if same(word, name) { number } else { other }
 }
 
-// The number of a name, 0 if there is no such name.
-fn number_of(word: &[u8]) -> u8 {
-    let n = named(0, word, b"LOAD", command::LOAD);
-    let n = named(n, word, b"START", command::START);
-    let n = named(n, word, b"NEW", command::NEW);
+fn event_command(other: u8, word: &[u8]) -> u8 {
+    let n = named(other, word, b"NEW", command::NEW);
     let n = named(n, word, b"POST", command::POST);
     let n = named(n, word, b"POSTFRONT", command::POSTFRONT);
     let n = named(n, word, b"PUBLISH", command::PUBLISH);
@@ -142,13 +138,24 @@ fn number_of(word: &[u8]) -> u8 {
     let n = named(n, word, b"HOLD", command::HOLD);
     let n = named(n, word, b"RELEASE", command::RELEASE);
     let n = named(n, word, b"DROP", command::DROP);
+    named(n, word, b"READ", command::READ)
+}
+
+// The commands of charts, of steps and of clocks.
+fn other_command(other: u8, word: &[u8]) -> u8 {
+    let n = named(other, word, b"LOAD", command::LOAD);
+    let n = named(n, word, b"START", command::START);
     let n = named(n, word, b"NEXT", command::NEXT);
     let n = named(n, word, b"END", command::END);
+    let n = named(n, word, b"DRAIN", command::DRAIN);
     let n = named(n, word, b"ARM", command::ARM);
     let n = named(n, word, b"DISARM", command::DISARM);
-    let n = named(n, word, b"TICK", command::TICK);
-    let n = named(n, word, b"READ", command::READ);
-    let n = named(n, word, b"DRAIN", command::DRAIN);
+    named(n, word, b"TICK", command::TICK)
+}
+
+// The number of a name, 0 if there is no such name.
+fn number_of(word: &[u8]) -> u8 {
+    let n = other_command(event_command(0, word), word);
     let n = named(n, word, b"TOP", TOP);
     let n = named(n, word, b"STATE", STATE);
     let n = named(n, word, b"ROW", ROW);
@@ -258,10 +265,7 @@ fn with_word(record: Record, word: Word) -> Record {
 }
 
 // The line with its last word in the record.
-fn word_ended(line: Reading) -> Reading
-    requires { ⌜ line .text .n ≤ 192 ⌝ }
-    ensures { λ r. ⌜ r .text .n ≤ 192 ⌝ }
-{
+fn word_ended(line: Reading) -> Reading {
     let word = line.word;
     if word.letters == 0 {
         return line;
@@ -274,16 +278,21 @@ fn word_ended(line: Reading) -> Reading
     }
 }
 
+fn kept(is_kept: bool, text: Line, letter: u8) -> Line {
+    if is_kept {
+        text::with_bytes(text, &[letter])
+    } else {
+        text
+    }
+}
+
 // The line with a letter more. What stands behind `=` is not kept.
-fn with(line: Reading, letter: u8) -> Reading
-    requires { ⌜ line .text .n ≤ 192 ⌝ }
-    ensures { λ r. ⌜ r .text .n ≤ 192 ⌝ }
-{
+fn with(line: Reading, letter: u8) -> Reading {
     if line.is_answer {
         return line;
     }
     let so_far = line.text;
-    let text = text::with_bytes(so_far, &[letter]);
+    let text = kept(line.is_kept, so_far, letter);
     let longer = Reading { text, ..line };
     if line.is_comment {
         return longer;
@@ -307,10 +316,7 @@ fn with(line: Reading, letter: u8) -> Reading
 }
 
 // Reads a letter, and ends the line where that is its end, or the input's.
-fn read_on(line: Reading) -> Reading
-    requires { ⌜ line .text .n ≤ 192 ⌝ }
-    ensures { λ r. ⌜ r .text .n ≤ 192 ⌝ }
-{
+fn read_on(line: Reading) -> Reading {
     match input::read_letter() {
         Letter::End => Reading {
             is_whole: true,
@@ -332,11 +338,9 @@ fn read_on(line: Reading) -> Reading
     }
 }
 
-// The next line of the input.
-pub fn read_line() -> Reading
-    ensures { λ r. ⌜ r .text .n ≤ 192 ⌝ }
-{
-    let mut line = no_line();
+// The next line of the input. Its text is kept only for who writes it: the front of a long one is written before the whole is read.
+pub fn read_line(is_kept: bool) -> Reading {
+    let mut line = no_line(is_kept);
     let mut turns = u64::MAX;
     while turns > 0 && !line.is_whole {
         line = read_on(line);

@@ -2,6 +2,7 @@ use borrow.Author.Needs.{needs}
 use mathlib.Core.Path.{_≡_, refl, sym, _∙_}
 use Prim.Native.Nat.{_+_, _*_, _-_}
 use native.Mathlib.Omega.{arith}
+use Rattle.chart.specs.Numbers.{slotSize}
 use Rattle.layout.proofs.Places.{slot-class, slot-filled, slot-left}
 use Rattle.layout.proofs.fill_slot.Statement.{statement}
 use Rattle.layout.proofs.fill_slot.Tie as tie
@@ -10,15 +11,15 @@ returns : tie.Need-returns
 returns c =
     let s = c .before .before .before .before .before .before in
     let f = c .before .before .chart-flatten .ensures in
-    let at = 16152 * s .args .q in
-    let n : at + 16152 - at ≡ 16152 = omega arith in
+    let at = slotSize * s .args .q in
+    let n : at + slotSize - at ≡ slotSize = omega arith in
     let d = s .args .chart .now in
     let l = s .args .tables .now in
-    let class = f .0 ∙ slot-class (s .args .q) at (at + 16152 - at) d l (s .pre .0) (s .pre .1) refl n in (
+    let class = f .0 ∙ slot-class (s .args .q) at (at + slotSize - at) d l (s .pre .0) (s .pre .1) refl n in (
       class,
       (
-        λ e. rw (f .1) (slot-filled (s .args .q) at (at + 16152 - at) d l (s .pre .0) (s .pre .1) refl n (sym class ∙ e)),
-        λ ne. rw (f .1) (slot-left (s .args .q) at (at + 16152 - at) d l (s .pre .0) (s .pre .1) refl n (λ e. ne (class ∙ e))),
+        λ e. rw (f .1) (slot-filled (s .args .q) at (at + slotSize - at) d l (s .pre .0) (s .pre .1) refl n (sym class ∙ e)),
+        λ ne. rw (f .1) (slot-left (s .args .q) at (at + slotSize - at) d l (s .pre .0) (s .pre .1) refl n (λ e. ne (class ∙ e))),
       ),
     )
 

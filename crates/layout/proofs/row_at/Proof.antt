@@ -2,6 +2,7 @@ use borrow.Author.Needs.{needs}
 use mathlib.Core.Path.{_≡_, refl}
 use Prim.Native.Nat.{_+_, _-_}
 use native.Mathlib.Omega.{arith}
+use Rattle.chart.specs.Numbers.{rowSize}
 use Rattle.layout.proofs.Places.{row-past, row-last}
 use Rattle.layout.proofs.row_at.Statement.{statement}
 use Rattle.layout.proofs.row_at.Tie as tie
@@ -15,7 +16,7 @@ returns-2 c = row-last (c .before .before .before .args .tables .now) (c .before
 returns-3 : tie.Need-returns-3
 returns-3 c =
     let at = c .before .before .before .args .at in
-    let e : at + 24 - at ≡ 24 = omega arith in
+    let e : at + rowSize - at ≡ rowSize = omega arith in
     rw e refl
 
 pub row-at-spec : {M : Type 1} → statement M

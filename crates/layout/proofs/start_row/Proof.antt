@@ -1,6 +1,7 @@
 use borrow.Author.Needs.{needs}
 use Prim.Native.Nat.{_*_}
 use native.Mathlib.Omega.{arith}
+use Rattle.chart.specs.Numbers.{slotSize}
 use Rattle.machine.specs.Charts.{startRow}
 use Rattle.layout.proofs.Places.{row-past}
 use Rattle.layout.proofs.start_row.Statement.{statement}
@@ -10,7 +11,7 @@ returns : tie.Need-returns
 unfolding startRow
 returns c =
     let a = c .before .before .before .args in
-    row-past (a .tables .now) (16152 * a .q) (omega (arith, c .before .if1 .taken))
+    row-past (a .tables .now) (slotSize * a .q) (omega (arith, c .before .if1 .taken))
 
 returns-2 : tie.Need-returns-2
 unfolding startRow

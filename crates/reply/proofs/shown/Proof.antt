@@ -9,16 +9,17 @@ use borrow.Author.Tests.{le-ltb, lt-ltb}
 use lib.Dec.{ltb}
 use lib.ListN.{length, take}
 use lib.Seq.{take-all, length-take-le}
+use Rattle.chart.specs.Numbers.{mostActions}
 use Rattle.machine.specs.Reply.{bytes, replyOf}
 use Rattle.reply.proofs.shown.Statement.{statement}
 use Rattle.reply.proofs.shown.Tie as tie
 
-count-of : (l : List ℕ) → cond (ltb (length l) 18) (length l) 18 ≡ length (take 18 l)
-count-of l = go (decLt (length l) 18)
+count-of : (l : List ℕ) → cond (ltb (length l) mostActions) (length l) mostActions ≡ length (take mostActions l)
+count-of l = go (decLt (length l) mostActions)
   where
-    go : Dec (length l < 18) → cond (ltb (length l) 18) (length l) 18 ≡ length (take 18 l)
-    go (yes h) = rw (lt-ltb (length l) 18 h, take-all 18 l (omega arith)) refl
-    go (no h) = rw (le-ltb (length l) 18 (omega arith), length-take-le 18 l (omega arith)) refl
+    go : Dec (length l < mostActions) → cond (ltb (length l) mostActions) (length l) mostActions ≡ length (take mostActions l)
+    go (yes h) = rw (lt-ltb (length l) mostActions h, take-all mostActions l (omega arith)) refl
+    go (no h) = rw (le-ltb (length l) mostActions (omega arith), length-take-le mostActions l (omega arith)) refl
 
 returns : tie.Need-returns
 unfolding replyOf bytes

@@ -1,12 +1,12 @@
--- The line keeps within its 192 bytes; the measure is what is left of the bytes.
-use Prim.Native.Nat.{_≤_, _-_}
+-- Nothing has to hold from byte to byte; the measure is what is left of the bytes.
+use Prim.Native.Nat.{_-_}
 use lib.ListN.{length}
 use borrow.Author.Needs.{needs}
 use Rattle.text.proofs.with_list.Statement.{statement}
 use Rattle.text.proofs.with_list.Tie as tie
 
 abbrev Inv-loop : tie.InvT-loop
-Inv-loop bytes longer₀ i₀ longer i = longer .n ≤ 192
+Inv-loop bytes longer₀ i₀ longer i = Unit {0}
 
 abbrev μ-loop : tie.MeasureT-loop
 μ-loop bytes longer₀ i₀ longer i = length bytes - i

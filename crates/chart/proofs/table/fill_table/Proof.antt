@@ -10,12 +10,13 @@ use Rattle.chart.proofs.Accepted.{accepted, size-of, start-bound}
 use Rattle.chart.proofs.Rows.{rowsTo, row-same, first-row, row-turn, rows-done}
 use Rattle.chart.proofs.table.fill_table.Statement.{statement}
 use Rattle.chart.proofs.table.fill_table.Tie as tie
+use Rattle.chart.specs.Numbers.{rowSize, rowCount, slotSize}
 
 abbrev Inv-loop : tie.InvT-loop
-Inv-loop chart table₀ n index k₀ table k = (k ≤ 672) × (length table ≡ 16152) × (table ≡ rowsTo chart k ++ drop (24 * k + 24) table₀)
+Inv-loop chart table₀ n index k₀ table k = (k ≤ rowCount) × (length table ≡ slotSize) × (table ≡ rowsTo chart k ++ drop (rowSize * k + rowSize) table₀)
 
 abbrev μ-loop : tie.MeasureT-loop
-μ-loop chart table₀ n index k₀ table k = 672 - k
+μ-loop chart table₀ n index k₀ table k = rowCount - k
 
 index-rows-requires : tie.Need-index-rows-requires Inv-loop μ-loop
 index-rows-requires c κs = let from = c .before .before .before in size-of (from .args .chart .now) (accepted _ (from .pre .0) .fits)
@@ -26,7 +27,7 @@ loop-holds c =
     let d = from .args .chart .now in
     let w = c .before .before .write-row in
     let e = ap rowBytes (c .before .before .before .start-of .ensures) ∙ row-same (start d) (start-bound d (accepted d (from .pre .0))) in
-    (search needs, w .kept .0 ∙ from .pre .1, first-row d (w .last .0) (drop 24 (from .args .table .now)) (rw (← e) (w .ensures)))
+    (search needs, w .kept .0 ∙ from .pre .1, first-row d (w .last .0) (drop rowSize (from .args .table .now)) (rw (← e) (w .ensures)))
 
 row-no-requires : tie.Need-row-no-requires Inv-loop μ-loop
 row-no-requires c κs = (c .before .before .before .before .before .before .before .before .before .before .before .before .before .pre .0, c .before .before .before .before .before .before .before .before .before .index-rows .ensures, c .before .before .before .before .before .before .before .before .before .before .state-count .ensures, c .before .before .loop-test .taken)
@@ -37,7 +38,7 @@ loop-again c =
     let k = at .k in
     let w = c .before .before .write-row2 in (
       search needs,
-      same-len-mid (24 * k + 24) (length (at .table) - (24 * k + 24)) (at .table) (w .last .0) (w .kept .0) ∙ at .inv .1,
+      same-len-mid (rowSize * k + rowSize) (length (at .table) - (rowSize * k + rowSize)) (at .table) (w .last .0) (w .kept .0) ∙ at .inv .1,
       rw (w .ensures) (row-turn (c .before .before .before .before .before .before .before .before .before .before .before .before .before .before .before .before .before .args .chart .now) k (c .before .before .before .before .before .before .before .before .before .before .write-row .last .0) (at .table) _ (c .before .before .before .row-no .ensures) (at .inv .2)),
     )
 

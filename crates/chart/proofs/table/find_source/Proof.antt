@@ -13,13 +13,14 @@ use Rattle.chart.proofs.Index.{length-index, row-found}
 use Rattle.chart.proofs.Walk.{first-of-top, first-of-found, first-of-more, first-of-done}
 use Rattle.chart.proofs.table.find_source.Statement.{statement}
 use Rattle.chart.proofs.table.find_source.Tie as tie
+use Rattle.chart.specs.Numbers.{levels}
 
 abbrev Inv-loop : tie.InvT-loop
 Inv-loop chart index x g e s₀ k₀ s k =
-    (k ≤ 6) × (s ≤ states chart) × (firstOf (hasRow chart g) (path (6 - k) chart s) ≡ source chart x g)
+    (k ≤ levels) × (s ≤ states chart) × (firstOf (hasRow chart g) (path (levels - k) chart s) ≡ source chart x g)
 
 abbrev μ-loop : tie.MeasureT-loop
-μ-loop chart index x g e s₀ k₀ s k = 6 - k
+μ-loop chart index x g e s₀ k₀ s k = levels - k
 
 loop-holds : tie.Need-loop-holds Inv-loop μ-loop
 loop-holds c = (search needs, c .before .pre .state .1, refl)
@@ -28,7 +29,7 @@ returns : tie.Need-returns Inv-loop μ-loop
 returns c =
     let from = c .before .before .before .before .args in
     let at = c .before .before .loop in
-    (sym (first-of-top (hasRow (from .chart .now) (from .g)) (from .chart .now) (6 - at .k) (at .s) (c .if1 .taken)) ∙ at .inv .2, search needs)
+    (sym (first-of-top (hasRow (from .chart .now) (from .g)) (from .chart .now) (levels - at .k) (at .s) (c .if1 .taken)) ∙ at .inv .2, search needs)
 
 row-of-requires : tie.Need-row-of-requires Inv-loop μ-loop
 row-of-requires c κs =

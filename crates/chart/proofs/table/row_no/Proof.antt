@@ -9,6 +9,7 @@ use Rattle.chart.proofs.Accepted.{accepted, step-bound}
 use Rattle.chart.proofs.Rows.{row-same}
 use Rattle.chart.proofs.table.row_no.Statement.{statement}
 use Rattle.chart.proofs.table.row_no.Tie as tie
+use Rattle.chart.specs.Numbers.{firstSignal, signalCount}
 
 step-of-requires : tie.Need-step-of-requires
 step-of-requires c κs =
@@ -20,9 +21,9 @@ unfolding rowNo
 returns c =
     let p = c .before .before .before .pre in
     let d = c .before .before .before .args .chart .now in
-    let s = c .before .before .before .args .k / 28 + 1 in
+    let s = c .before .before .before .args .k / signalCount + 1 in
     let h : s ≤ c .before .before .before .args .n = c .before .if1 .taken in
-    let b = step-bound d (accepted d (p .0)) s (c .before .before .before .args .k % 28 + 4) (record { low = omega arith; high = omega (arith, p .2) }) in
+    let b = step-bound d (accepted d (p .0)) s (c .before .before .before .args .k % signalCount + firstSignal) (record { low = omega arith; high = omega (arith, p .2) }) in
     rw (← p .2, le-leb s (c .before .before .before .args .n) h) (ap rowBytes (c .step-of .ensures) ∙ row-same _ b)
 
 returns-2 : tie.Need-returns-2

@@ -10,11 +10,12 @@ use Rattle.ground.specs.Parts.{tail-part}
 use Rattle.ground.specs.Range.{every}
 use Rattle.chart.specs.Chart.{formsOk, among}
 use Rattle.chart.specs.Held.{formAt}
+use Rattle.chart.specs.Numbers.{mostStates}
 use Rattle.flattener.proofs.faults.forms_ok.Statement.{statement}
 use Rattle.flattener.proofs.faults.forms_ok.Tie as tie
 
 abbrev Inv-loop : tie.InvT-loop
-Inv-loop chart n e i₀ i = (i ≤ e) × ((every (formAt n chart) i e && among 24 n) ≡ formsOk n chart)
+Inv-loop chart n e i₀ i = (i ≤ e) × ((every (formAt n chart) i e && among mostStates n) ≡ formsOk n chart)
 
 abbrev μ-loop : tie.MeasureT-loop
 μ-loop chart n e i₀ i = e - i
@@ -28,23 +29,23 @@ returns c =
     let d = c .before .before .before .before .before .before .before .args .chart .now in
     let n = c .before .before .before .before .before .before .before .args .n in
     let i = c .before .before .before .before .before .loop .i in
-    let q : formAt n d i ≡ false = cc (tail-part d (8 * i), refused (c .before .form-ok .ensures) (c .if1 .taken), c .before .before .kind-at .ensures) in
-    sym (ap (λ b. b && among 24 n) (every-fail (formAt n d) i (length d / 8) (search needs) q)) ∙ c .before .before .before .before .before .loop .inv .1
+    let q : formAt n d i ≡ false = rw (← c .before .before .kind-at .ensures, ← tail-part d (8 * i)) (refused (c .before .form-ok .ensures) (c .if1 .taken)) in
+    sym (ap (λ b. b && among mostStates n) (every-fail (formAt n d) i (length d / 8) (search needs) q)) ∙ c .before .before .before .before .before .loop .inv .1
 
 loop-again : tie.Need-loop-again Inv-loop μ-loop
 loop-again c =
     let d = c .before .before .before .before .before .before .before .args .chart .now in
     let n = c .before .before .before .before .before .before .before .args .n in
     let i = c .before .before .before .before .before .loop .i in
-    let q : formAt n d i ≡ true = cc (tail-part d (8 * i), passed (c .before .form-ok .ensures) (c .if1 .left), c .before .before .kind-at .ensures) in
-    (search needs, sym (ap (λ b. b && among 24 n) (every-pass (formAt n d) i (length d / 8) (search needs) q)) ∙ c .before .before .before .before .before .loop .inv .1)
+    let q : formAt n d i ≡ true = rw (← c .before .before .kind-at .ensures, ← tail-part d (8 * i)) (passed (c .before .form-ok .ensures) (c .if1 .left)) in
+    (search needs, sym (ap (λ b. b && among mostStates n) (every-pass (formAt n d) i (length d / 8) (search needs) q)) ∙ c .before .before .before .before .before .loop .inv .1)
 
 -- behind the loop only the number of states is left
-counted : (c : tie.After-loop Inv-loop μ-loop) → among 24 (c .before .before .before .args .n) ≡ formsOk (c .before .before .before .args .n) (c .before .before .before .args .chart .now)
+counted : (c : tie.After-loop Inv-loop μ-loop) → among mostStates (c .before .before .before .args .n) ≡ formsOk (c .before .before .before .args .n) (c .before .before .before .args .chart .now)
 counted c =
     let d = c .before .before .before .args .chart .now in
     let n = c .before .before .before .args .n in
-    sym (ap (λ b. b && among 24 n) (every-done (formAt n d) (c .before .loop .i) (length d / 8) (search needs))) ∙ c .before .loop .inv .1
+    sym (ap (λ b. b && among mostStates n) (every-done (formAt n d) (c .before .loop .i) (length d / 8) (search needs))) ∙ c .before .loop .inv .1
 
 returns-2 : tie.Need-returns-2 Inv-loop μ-loop
 unfolding among

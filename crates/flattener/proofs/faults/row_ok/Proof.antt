@@ -6,16 +6,16 @@ use Rattle.flattener.proofs.faults.row_ok.Tie as tie
 
 returns : tie.Need-returns
 unfolding rowOk
-returns c = simp (refused (c .before .is-among .ensures) (c .if1 .taken))
+returns c = rw (refused (c .before .is-among .ensures) (c .if1 .taken))
 
 returns-2 : tie.Need-returns-2
 unfolding rowOk
-returns-2 c = simp (passed (c .before .before .before .before .is-among .ensures) (c .before .before .before .if1 .left), refused (c .before .is-signal .ensures) (c .if2 .taken))
+returns-2 c = rw (passed (c .before .before .before .before .is-among .ensures) (c .before .before .before .if1 .left), refused (c .before .is-signal .ensures) (c .if2 .taken))
 
 returns-3 : tie.Need-returns-3
 unfolding rowOk
 returns-3 c =
-    simp (
+    rw (
       passed (c .before .before .before .before .before .before .before .before .is-among .ensures) (c .before .before .before .before .before .before .before .if1 .left),
       passed (c .before .before .before .before .before .is-signal .ensures) (c .before .before .before .before .if2 .left),
       refused (c .before .target-ok .ensures) (c .if3 .taken),
@@ -24,7 +24,7 @@ returns-3 c =
 returns-4 : tie.Need-returns-4
 unfolding rowOk
 returns-4 c =
-    simp (
+    rw (
       passed (c .before .before .before .before .before .before .before .before .before .is-among .ensures) (c .before .before .before .before .before .before .before .before .if1 .left),
       passed (c .before .before .before .before .before .before .is-signal .ensures) (c .before .before .before .before .before .if2 .left),
       passed (c .before .before .target-ok .ensures) (c .before .if3 .left),

@@ -28,7 +28,7 @@ returns c =
     let d = c .before .before .before .before .before .before .args .chart .now in
     let n = c .before .before .before .before .before .before .args .n in
     let i = c .before .before .before .before .loop .i in
-    let q : rowGood n d i ≡ false = cc (tail-part d (8 * i), refused (c .before .row-ok .ensures) (c .if1 .taken), c .before .before .before .before .loop .inv .1) in
+    let q : rowGood n d i ≡ false = rw (← c .before .before .before .before .loop .inv .1, ← tail-part d (8 * i)) (refused (c .before .row-ok .ensures) (c .if1 .taken)) in
     sym (every-fail (rowGood n d) i (length d / 8) (search needs) q) ∙ c .before .before .before .before .loop .inv .2
 
 loop-again : tie.Need-loop-again Inv-loop μ-loop
@@ -37,9 +37,9 @@ loop-again c =
     let n = c .before .before .before .before .before .before .before .before .args .n in
     let at = c .before .before .before .before .before .before .loop in
     let i = at .i in
-    let q : rowGood n d i ≡ true = cc (tail-part d (8 * i), passed (c .before .before .before .row-ok .ensures) (c .before .before .if1 .left), at .inv .1) in (
+    let q : rowGood n d i ≡ true = rw (← at .inv .1, ← tail-part d (8 * i)) (passed (c .before .before .before .row-ok .ensures) (c .before .before .if1 .left)) in (
       search needs,
-      cc (tail-part d (8 * i), key-next n d i (search needs), c .key-of .ensures),
+      rw (key-next n d i (search needs), ← tail-part d (8 * i)) (c .key-of .ensures),
       sym (every-pass (rowGood n d) i (length d / 8) (search needs) q) ∙ at .inv .2,
     )
 
