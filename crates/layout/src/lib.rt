@@ -7,7 +7,7 @@ ghost use Rattle.chart.specs.Flat.{rowAt, slotBytes};
 ghost use Rattle.chart.specs.Numbers.{slotSize};
 ghost use Rattle.ground.specs.Bytes.{padded};
 ghost use Rattle.machine.specs.Charts.{startRow};
-ghost use Rattle.machine.specs.Numbers.{capacity, placeOf, blocks, payloadBytes, slots, tableBytes};
+ghost use Rattle.machine.specs.Numbers.{capacity, placeOf, blocks, mostBytes, payloadBytes, slots, tableBytes};
 ghost use Rattle.machine.specs.Reply.{over};
 use numbers::LARGE;
 use numbers::LARGE_BYTES;
@@ -24,7 +24,7 @@ const LARGE_PLACE: usize = MIDDLE_PLACE + MIDDLE_BYTES * (LARGE - MIDDLE);
 
 // How many bytes block b holds.
 fn capacity_of(b: usize) -> usize
-    ensures { λ r. ⌜ (r ≡ capacity b) × (r ≤ 64) ⌝ }
+    ensures { λ r. ⌜ (r ≡ capacity b) × (r ≤ mostBytes) ⌝ }
 {
     if b < MIDDLE {
         return SMALL_BYTES;

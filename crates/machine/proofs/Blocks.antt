@@ -41,7 +41,7 @@ use Rattle.machine.proofs.Counts.{
 use Rattle.machine.proofs.Parts.{store-changed, store-holds, store-new, mail-back, mail-front}
 use Rattle.machine.specs.Events.{counted, freedNew, newEvent, newIn, posted, postedFront, held, released}
 use Rattle.machine.specs.Inv.{Inv, isLive, references, countOf, IsSignal, IsEvent, InHand, StoreOk, MailOk}
-use Rattle.machine.specs.Numbers.{objects, payloadBytes, mostHolds, capacity, placeOf}
+use Rattle.machine.specs.Numbers.{objects, mostBytes, payloadBytes, mostHolds, capacity, placeOf}
 use Rattle.machine.specs.Reply.{Areas}
 use Rattle.machine.specs.State.{State, Events, sizeIn, holdsOn, depthOf, room, withCells, withEvents, withBoxes, withHand, withHolds}
 
@@ -132,7 +132,7 @@ module _ (s : State) (b : ℕ) (i : Inv s) (l : b < blocks) where
       (counted-same (s .cells) (references s) (references s) b (i .store .cells-length) l (i .counted) dropped (count-dropped (at (s .cells) b)) (λ k h. refl))
 
 -- NEW: what is found is free, is one of the blocks, and is large enough.
-pub pool-fits : (n b : ℕ) → n ≤ 64 → poolFor n .from ≤ b → n ≤ capacity b
+pub pool-fits : (n b : ℕ) → n ≤ mostBytes → poolFor n .from ≤ b → n ≤ capacity b
 unfolding poolFor capacity
 pool-fits n b h =
     cond-pick Fits (leb n 16) _ _ (λ e m. omega (arith, leb-true n 16 e, at-least)) (λ e.
@@ -148,7 +148,7 @@ pool-fits n b h =
     at-least : 16 ≤ cond (ltb b 32) 16 (cond (ltb b 48) 32 64)
     at-least = cond-pick (λ x. 16 ≤ x) (ltb b 32) 16 _ (λ e. omega arith) (λ e. omega (arith, at-least-32))
 
-module _ (s : State) (g n : ℕ) (i : Inv s) (sig : IsSignal g) (h : n ≤ 64) where
+module _ (s : State) (g n : ℕ) (i : Inv s) (sig : IsSignal g) (h : n ≤ mostBytes) where
   pub newEvent-keeps : (b : ℕ) → found (s .cells) n ≡ At b → Inv (newEvent s b g n)
   unfolding newEvent references
   newEvent-keeps b e =

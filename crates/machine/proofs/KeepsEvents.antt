@@ -36,7 +36,7 @@ use Rattle.machine.specs.Events.{
   read,
 }
 use Rattle.machine.specs.Inv.{Inv, references}
-use Rattle.machine.specs.Numbers.{objects, signalPlaces}
+use Rattle.machine.specs.Numbers.{objects, mostBytes, signalPlaces}
 use Rattle.machine.specs.Reply.{Areas}
 use Rattle.machine.specs.State.{State, signalIn, holdsOn, started}
 
@@ -59,7 +59,7 @@ module _ (s : State) (z : Areas) (i : Inv s) where
   unfolding new newTests
   new-keeps spoilt g n payload =
       unless-state s z _ Inv i (newTests spoilt g n s (z .payloads)) refl (λ t.
-      newIn-keeps s g n i (within-signal g (t .1 .1 .0)) (within-high 0 64 n (t .1 .1 .1 .0))
+      newIn-keeps s g n i (within-signal g (t .1 .1 .0)) (within-high 0 mostBytes n (t .1 .1 .1 .0))
       (found (s .cells) n) payload z refl)
 
   pub post-keeps : (spoilt : Bool) (b gen p margin : ℕ) → Inv (post spoilt b gen p margin s z .state)

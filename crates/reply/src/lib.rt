@@ -5,7 +5,7 @@ ghost use Prim.Native.Nat.{_≤_, _<_};
 ghost use lib.Dec.{ltb};
 ghost use lib.ListN.{length, getD};
 ghost use Rattle.chart.specs.Numbers.{rowSize};
-ghost use Rattle.machine.specs.Numbers.{signalPlaces};
+ghost use Rattle.machine.specs.Numbers.{mostBytes, signalPlaces};
 ghost use Rattle.machine.specs.Reply.{no, badChart, replyOf};
 ghost use Rattle.machine.specs.Reply as said;
 use ground::fill;
@@ -84,7 +84,7 @@ fn least(a: usize, b: usize) -> usize
 
 // The answer of READ: the payload's length, and as much of it as there is room for.
 pub fn shown(payload: &[u8]) -> [u8; REPLY_BYTES]
-    requires { ⌜ length (now payload) ≤ 64 ⌝ }
+    requires { ⌜ length (now payload) ≤ mostBytes ⌝ }
     ensures { λ r. ⌜ r ≡ replyOf (said.shown (now (payload .entry))) ⌝ }
 {
     let n = payload.len();
