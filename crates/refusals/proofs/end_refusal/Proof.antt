@@ -5,7 +5,7 @@ use Rattle.refusals.proofs.end_refusal.Tie as tie
 
 returns : tie.Need-returns
 unfolding lowest
-returns c = rw (← c .before .first .ensures) (c .first2 .ensures)
+returns c = rw (c .first2 .ensures, c .before .first .ensures)
 
 pub end-refusal-spec : {M : Type 1} → statement M
 end-refusal-spec = tie.close (tie.spec (λ c κs. search needs) (λ c κs. search needs) returns)
