@@ -1,15 +1,15 @@
 // Events and their blocks.
 pub mod records;
 
-ghost use mathlib.Core.Bool.{cond, false};
+ghost use mathlib.Core.Bool.{false};
 ghost use mathlib.Core.Path.{_≡_};
-ghost use Prim.Native.Nat.{ℕ, _+_, _-_, _<_, _≤_};
-ghost use lib.ListN.{getD, length, set};
+ghost use Prim.Native.Nat.{ℕ, _-_, _<_, _≤_};
+ghost use lib.ListN.{getD, set};
 ghost use Rattle.machine.specs.Events as machine;
 ghost use Rattle.machine.specs.Events.{fullReceiver, postTests, posted, postedFront, publishDone, published};
 ghost use Rattle.machine.specs.Numbers.{blocks, objects};
-ghost use Rattle.machine.specs.Reply.{Areas, answer, done, lowest, unless};
-ghost use Rattle.machine.specs.State.{boxOf, withCells, withHolds};
+ghost use Rattle.machine.specs.Reply.{Areas, lowest};
+ghost use Rattle.machine.specs.State.{withCells, withHolds};
 ghost use Rattle.mail.specs.Box.{room};
 ghost use Rattle.pool.specs.View.{cells};
 ghost use Rattle.state.specs.View.{answered, Good, stateOf};
@@ -46,7 +46,7 @@ fn post_back(mut k: Kernel, b: usize, p: usize) -> Kernel
     k
 }
 
-// The tests of POST.
+// The tests of POST; those of POSTFRONT are the same with margin 0.
 fn post_no(k: Kernel, spoilt: bool, b: usize, generation: u8, p: usize, margin: usize) -> u8
     ensures { λ r. ⌜ r ≡ lowest (postTests spoilt b generation p margin (stateOf k)) ⌝ }
 {
@@ -56,6 +56,22 @@ fn post_no(k: Kernel, spoilt: bool, b: usize, generation: u8, p: usize, margin: 
     let free = room_of(depth, of_object(&counts, p));
     let stale = pool::stale(k.pool, b, generation);
     post_refusal(spoilt, b, p, margin, stale, depth != 0, free)
+}
+
+// POST handle, p, margin.
+pub fn post(k: Kernel, spoilt: bool, b: usize, generation: u8, p: usize, margin: usize) -> Answered
+    requires { ⌜ Good k ⌝ }
+    ensures { λ r. ⌜ ((z : Areas) → answered r z ≡ machine.post spoilt b generation p margin (stateOf k) z) ⌝ }
+{
+    let no = post_no(k, spoilt, b, generation, p, margin);
+    if no != 0 {
+        return refuse(k, no);
+    }
+    let counts = k.counts;
+    Answered {
+        kernel: post_back(k, b, p),
+        reply: reply::done(counts[p - 1] + 1, 0),
+    }
 }
 
 // Block b goes to the front of p's mailbox, which has room.
@@ -75,56 +91,20 @@ fn post_ahead(mut k: Kernel, b: usize, p: usize) -> Kernel
     k
 }
 
-// Block b goes to p's mailbox, which has room: to the front, or to the back.
-fn post_at(k: Kernel, b: usize, p: usize, ahead: bool) -> Kernel
-    requires { ⌜ (b < blocks) × (1 ≤ p) × (p ≤ objects) × (getD (k .counts) (p - 1) 0 < room) ⌝ }
-    ensures { λ r. ⌜ stateOf r ≡ cond ahead (postedFront (stateOf k) b p) (posted (stateOf k) b p) ⌝ }
-{
-    if ahead {
-        return post_ahead(k, b, p);
-    }
-    post_back(k, b, p)
-}
-
-// What both commands do: the tests are those of POST, which with margin 0 are those of POSTFRONT.
-fn posting(
-    k: Kernel,
-    spoilt: bool,
-    b: usize,
-    generation: u8,
-    p: usize,
-    margin: usize,
-    ahead: bool,
-) -> Answered
-    requires { ⌜ Good k ⌝ }
-    ensures { λ r. ⌜ ((z : Areas) → answered r z ≡ unless (lowest (postTests spoilt b generation p margin (stateOf k))) (stateOf k) z
-        (answer (cond ahead (postedFront (stateOf k) b p) (posted (stateOf k) b p)) (done (length (boxOf (stateOf k) p) + 1) 0) z)) ⌝ }
-{
-    let no = post_no(k, spoilt, b, generation, p, margin);
-    if no != 0 {
-        return refuse(k, no);
-    }
-    let counts = k.counts;
-    Answered {
-        kernel: post_at(k, b, p, ahead),
-        reply: reply::done(counts[p - 1] + 1, 0),
-    }
-}
-
-// POST handle, p, margin.
-pub fn post(k: Kernel, spoilt: bool, b: usize, generation: u8, p: usize, margin: usize) -> Answered
-    requires { ⌜ Good k ⌝ }
-    ensures { λ r. ⌜ ((z : Areas) → answered r z ≡ machine.post spoilt b generation p margin (stateOf k) z) ⌝ }
-{
-    posting(k, spoilt, b, generation, p, margin, false)
-}
-
 // POSTFRONT handle, p.
 pub fn post_front(k: Kernel, spoilt: bool, b: usize, generation: u8, p: usize) -> Answered
     requires { ⌜ Good k ⌝ }
     ensures { λ r. ⌜ ((z : Areas) → answered r z ≡ machine.postFront spoilt b generation p (stateOf k) z) ⌝ }
 {
-    posting(k, spoilt, b, generation, p, 0, true)
+    let no = post_no(k, spoilt, b, generation, p, 0);
+    if no != 0 {
+        return refuse(k, no);
+    }
+    let counts = k.counts;
+    Answered {
+        kernel: post_ahead(k, b, p),
+        reply: reply::done(counts[p - 1] + 1, 0),
+    }
 }
 
 // Block b goes to the back of every subscriber to signal g, each of which has room.
@@ -233,8 +213,16 @@ pub fn release(k: Kernel, spoilt: bool, b: usize, generation: u8) -> Answered
     }
 }
 
+// The kernel with another pool.
+fn with_pool(mut k: Kernel, pool: Pool) -> Kernel
+    ensures { λ r. ⌜ stateOf r ≡ withCells (cells pool) (stateOf k) ⌝ }
+{
+    k.pool = pool;
+    k
+}
+
 // DROP handle: frees a new event.
-pub fn drop_event(mut k: Kernel, spoilt: bool, b: usize, generation: u8) -> Answered
+pub fn drop_event(k: Kernel, spoilt: bool, b: usize, generation: u8) -> Answered
     requires { ⌜ Good k ⌝ }
     ensures { λ r. ⌜ ((z : Areas) → answered r z ≡ machine.dropEvent spoilt b generation (stateOf k) z) ⌝ }
 {
@@ -244,10 +232,8 @@ pub fn drop_event(mut k: Kernel, spoilt: bool, b: usize, generation: u8) -> Answ
     if no != 0 {
         return refuse(k, no);
     }
-    let pool = gone.pool;
-    k.pool = pool;
     Answered {
-        kernel: k,
+        kernel: with_pool(k, gone.pool),
         reply: reply::done(0, 0),
     }
 }

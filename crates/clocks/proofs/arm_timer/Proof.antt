@@ -10,5 +10,4 @@ unfolding stateOf armedWith
 returns c = refl
 
 pub arm-timer-spec : {M : Type 1} → statement M
-arm-timer-spec =
-    tie.close (tie.spec (λ c. search needs) (λ c. search needs) (λ c. search needs) (λ c. search needs) (λ c. search needs) (λ c. search needs) returns)
+arm-timer-spec = tie.close (tie.spec (λ c. search needs) (λ c. search needs) (λ c. search needs) (λ c. search needs) (λ c. search needs) (λ c. search needs) returns)

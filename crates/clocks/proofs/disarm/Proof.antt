@@ -28,6 +28,4 @@ returns-2 c =
     (rw (c .before .before .disarm-timer .ensures, c .done .ensures, c .before .one .ensures .0, c .before .before .before .counter-of .ensures) refl)
 
 pub disarm-spec : {M : Type 1} → statement M
-disarm-spec =
-    tie.close
-    (tie.spec (λ c κs. search needs) (λ c κs. search needs) returns (λ c κs. search needs) disarm-timer-requires (λ c κs. search needs) (λ c κs. search needs) returns-2)
+disarm-spec = tie.close (tie.spec (λ c κs. search needs) (λ c κs. search needs) returns (λ c κs. search needs) disarm-timer-requires (λ c κs. search needs) (λ c κs. search needs) returns-2)

@@ -22,9 +22,7 @@ unfolding dropEvent answered stateOf
 returns-2 c =
     let s = c .before .before .before in
     λ z. doing _ _ _ _ z _ (tests-are s) (c .before .before .if1 .left)
-    (rw (s .before .before .drop-new .ensures .row, c .done .ensures) refl)
+    (rw (c .before .with-pool .ensures, s .before .before .drop-new .ensures .row, c .done .ensures) refl)
 
 pub drop-event-spec : {M : Type 1} → statement M
-drop-event-spec =
-    tie.close
-    (tie.spec (λ c κs. search needs) (λ c κs. search needs) (λ c κs. search needs) (λ c κs. search needs) returns (λ c κs. search needs) returns-2)
+drop-event-spec = tie.close (tie.spec (λ c κs. search needs) (λ c κs. search needs) (λ c κs. search needs) (λ c κs. search needs) returns (λ c κs. search needs) (λ c κs. search needs) returns-2)

@@ -1,12 +1,42 @@
 use borrow.Author.Needs.{needs}
+use mathlib.Core.Path.{refl, sym, _∙_}
+use native.Mathlib.Omega.{arith}
 use Rattle.machine.specs.Events.{postFront}
-use Rattle.events.proofs.Posts.{front-tests}
+use Rattle.state.specs.View.{answered}
+use Rattle.state.proofs.Glue.{refusal, doing}
+use Rattle.events.proofs.Posts.{Postable, front-tests, postable, queued-is}
 use Rattle.events.proofs.post_front.Statement.{statement}
 use Rattle.events.proofs.post_front.Tie as tie
 
 returns : tie.Need-returns
 unfolding postFront
-returns c = λ z. rw (← front-tests _ _ _ _ _) (c .posting .ensures z)
+returns c = λ z. refusal _ _ _ _ z _ (c .before .before .post-no .ensures ∙ front-tests _ _ _ _ _) (c .before .if1 .taken) (c .refuse .ensures)
+
+may : (c : tie.Else1) → let a = c .before .before .args in Postable (a .k) (a .b) (a .p)
+may c =
+    let s = c .before .before in
+    let a = s .args in
+    postable (a .k) (a .spoilt) (a .b) (a .generation) (a .p) 0 (sym (c .before .post-no .ensures) ∙ c .if1 .left) (s .pre)
+
+post-ahead-requires : tie.Need-post-ahead-requires
+post-ahead-requires c κs = let h = may (c .before) in (h .block, h .low, h .high, h .free)
+
+sub-done : tie.Need-sub-done
+sub-done c = may (c .before .before) .low
+
+array-read-done : tie.Need-array-read-done
+array-read-done c = let h = may (c .before .before) in omega (arith, h .high)
+
+add-done : tie.Need-add-done
+add-done c = omega (arith, may (c .before .before) .free)
+
+returns-2 : tie.Need-returns-2
+unfolding postFront answered
+returns-2 c =
+    let s = c .before .before .before .before .before in
+    let a = s .args in
+    λ z. doing _ _ _ _ z _ (c .before .before .before .before .post-no .ensures ∙ front-tests _ _ _ _ _) (c .before .before .before .if1 .left)
+    (rw (c .before .post-ahead .ensures, c .done .ensures, queued-is (a .k) (a .p)) refl)
 
 pub post-front-spec : {M : Type 1} → statement M
-post-front-spec = tie.close (tie.spec (λ c κs. search needs) returns)
+post-front-spec = tie.close (tie.spec (λ c κs. search needs) (λ c κs. search needs) returns post-ahead-requires sub-done array-read-done add-done (λ c κs. search needs) returns-2)

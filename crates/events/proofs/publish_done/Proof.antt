@@ -34,7 +34,4 @@ returns-2 c =
     ) refl
 
 pub publish-done-spec : {M : Type 1} → statement M
-publish-done-spec =
-    tie.close
-    (tie.spec (λ c κs. search needs) (λ c κs. search needs) (λ c κs. search needs) (λ c κs. search needs)
-    returns (λ c κs. search needs) (λ c κs. search needs) returns-2)
+publish-done-spec = tie.close (tie.spec (λ c κs. search needs) (λ c κs. search needs) (λ c κs. search needs) (λ c κs. search needs) returns (λ c κs. search needs) (λ c κs. search needs) returns-2)

@@ -22,6 +22,4 @@ unfolding readPart
 returns-2 c = simp (eq-eqb _ _ (sym (c .before .before .read-no .ensures) ∙ c .before .if1 .left)) (c .payload-in .ensures)
 
 pub read-part-spec : {M : Type 1} → statement M
-read-part-spec =
-    tie.close
-    (tie.spec (λ c κs. search needs) (λ c. search needs) (λ c. search needs) (λ c. search needs) returns payload-in-requires returns-2)
+read-part-spec = tie.close (tie.spec (λ c κs. search needs) (λ c. search needs) (λ c. search needs) (λ c. search needs) returns payload-in-requires returns-2)

@@ -34,6 +34,4 @@ returns-2 c = λ p.
     c .before .before .drain-done .ensures p ∙ sym (unless-none _ _ _ _ (sym (tests-are (k .before)) ∙ k .if1 .left))
 
 pub drain-spec : {M : Type 1} → statement M
-drain-spec =
-    tie.close
-    (tie.spec (λ c κs. search needs) (λ c κs. search needs) (λ c κs. search needs) returns drain-done-requires (λ c. search needs) returns-2)
+drain-spec = tie.close (tie.spec (λ c κs. search needs) (λ c κs. search needs) (λ c κs. search needs) returns drain-done-requires (λ c. search needs) returns-2)

@@ -8,5 +8,4 @@ unfolding choose command
 returns c = λ p l. rw (← c .before .before .before .before .arg .ensures .0, ← c .before .before .before .before .before .spoilt .ensures) (c .before .before .load .ensures p l)
 
 pub load-command-spec : {M : Type 1} → statement M
-load-command-spec =
-    tie.close (tie.spec (λ c κs. search needs) (λ c κs. search needs) (λ c κs. search needs) (λ c. search needs) returns)
+load-command-spec = tie.close (tie.spec (λ c κs. search needs) (λ c κs. search needs) (λ c κs. search needs) (λ c. search needs) returns)

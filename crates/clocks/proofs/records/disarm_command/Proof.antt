@@ -8,5 +8,4 @@ unfolding choose command
 returns c = λ d z. rw (← c .before .arg .ensures .0, ← c .before .before .spoilt .ensures) (c .disarm .ensures z)
 
 pub disarm-command-spec : {M : Type 1} → statement M
-disarm-command-spec =
-    tie.close (tie.spec (λ c κs. search needs) (λ c κs. search needs) (λ c κs. search needs) returns)
+disarm-command-spec = tie.close (tie.spec (λ c κs. search needs) (λ c κs. search needs) (λ c κs. search needs) returns)

@@ -8,5 +8,4 @@ unfolding choose command
 returns c = λ d z. rw (← c .before .spoilt .ensures) (c .tick .ensures z)
 
 pub tick-command-spec : {M : Type 1} → statement M
-tick-command-spec =
-    tie.close (tie.spec (λ c κs. search needs) (λ c κs. search needs) returns)
+tick-command-spec = tie.close (tie.spec (λ c κs. search needs) (λ c κs. search needs) returns)

@@ -8,5 +8,4 @@ unfolding choose command
 returns c = λ d z. rw (← c .before .byte-at .ensures, ← c .before .before .arg .ensures .0, ← c .before .before .before .spoilt .ensures) (c .drop-event .ensures z)
 
 pub drop-event-command-spec : {M : Type 1} → statement M
-drop-event-command-spec =
-    tie.close (tie.spec (λ c κs. search needs) (λ c κs. search needs) (λ c κs. search needs) (λ c κs. search needs) returns)
+drop-event-command-spec = tie.close (tie.spec (λ c κs. search needs) (λ c κs. search needs) (λ c κs. search needs) (λ c κs. search needs) returns)

@@ -8,5 +8,4 @@ unfolding choose command
 returns c = λ d t l. rw (← c .before .byte-at .ensures, ← c .before .before .arg .ensures .0, ← c .before .before .before .spoilt .ensures) (c .read .ensures t l)
 
 pub read-command-spec : {M : Type 1} → statement M
-read-command-spec =
-    tie.close (tie.spec (λ c κs. search needs) (λ c κs. search needs) (λ c κs. search needs) (λ c κs. search needs) returns)
+read-command-spec = tie.close (tie.spec (λ c κs. search needs) (λ c κs. search needs) (λ c κs. search needs) (λ c κs. search needs) returns)

@@ -6,5 +6,4 @@ returns : tie.Need-returns
 returns c = cc (c .read-part .ensures)
 
 pub read-part-of-spec : {M : Type 1} → statement M
-read-part-of-spec =
-    tie.close (tie.spec (λ c κs. search needs) (λ c κs. search needs) (λ c κs. search needs) (λ c κs. search needs) returns)
+read-part-of-spec = tie.close (tie.spec (λ c κs. search needs) (λ c κs. search needs) (λ c κs. search needs) (λ c κs. search needs) returns)

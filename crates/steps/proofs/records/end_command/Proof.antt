@@ -8,5 +8,4 @@ unfolding choose command
 returns c = λ d z. rw (← c .before .spoilt .ensures) (c .end .ensures z)
 
 pub end-command-spec : {M : Type 1} → statement M
-end-command-spec =
-    tie.close (tie.spec (λ c κs. search needs) (λ c κs. search needs) returns)
+end-command-spec = tie.close (tie.spec (λ c κs. search needs) (λ c κs. search needs) returns)

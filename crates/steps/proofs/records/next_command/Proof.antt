@@ -8,5 +8,4 @@ unfolding choose command
 returns c = λ d p l. rw (← c .before .spoilt .ensures) (c .next .ensures p l)
 
 pub next-command-spec : {M : Type 1} → statement M
-next-command-spec =
-    tie.close (tie.spec (λ c κs. search needs) (λ c κs. search needs) returns)
+next-command-spec = tie.close (tie.spec (λ c κs. search needs) (λ c κs. search needs) returns)

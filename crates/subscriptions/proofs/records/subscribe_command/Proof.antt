@@ -8,5 +8,4 @@ unfolding choose command
 returns c = λ d z. rw (← c .before .arg2 .ensures .0, ← c .before .before .arg .ensures .0, ← c .before .before .before .spoilt .ensures) (c .subscribe .ensures z)
 
 pub subscribe-command-spec : {M : Type 1} → statement M
-subscribe-command-spec =
-    tie.close (tie.spec (λ c κs. search needs) (λ c κs. search needs) (λ c κs. search needs) (λ c κs. search needs) returns)
+subscribe-command-spec = tie.close (tie.spec (λ c κs. search needs) (λ c κs. search needs) (λ c κs. search needs) (λ c κs. search needs) returns)

@@ -8,5 +8,4 @@ unfolding choose command
 returns c = λ d z. rw (← c .before .arg2 .ensures .0, ← c .before .before .arg .ensures .0, ← c .before .before .before .spoilt .ensures) (c .unsubscribe .ensures z)
 
 pub unsubscribe-command-spec : {M : Type 1} → statement M
-unsubscribe-command-spec =
-    tie.close (tie.spec (λ c κs. search needs) (λ c κs. search needs) (λ c κs. search needs) (λ c κs. search needs) returns)
+unsubscribe-command-spec = tie.close (tie.spec (λ c κs. search needs) (λ c κs. search needs) (λ c κs. search needs) (λ c κs. search needs) returns)
