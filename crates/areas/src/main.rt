@@ -199,6 +199,33 @@ fn call_and_tell(
     next
 }
 
+// Begins anew where the head says so, makes the call with as much of record and chart as it says, and tells of it.
+fn make(
+    k: Kernel,
+    head: Head,
+    record: &[u8],
+    chart: &[u8],
+    payloads: &mut [u8],
+    tables: &mut [u8],
+    log: &mut [u8],
+) -> Kernel
+    requires { ⌜ Good k ⌝ }
+    ensures { λ r. ⌜ Good r ⌝ }
+{
+    let n = io::count(head.record as isize, record);
+    let m = io::count(head.chart as isize, chart);
+    let ready = begin(k, head.is_fresh, payloads, tables, log);
+    call_and_tell(
+        ready,
+        head,
+        &record[..n],
+        &chart[..m],
+        payloads,
+        tables,
+        log,
+    )
+}
+
 // The kernel that a turn leaves, and whether another turn may come.
 struct Run {
     kernel: Kernel,
@@ -219,20 +246,8 @@ fn turn(k: Kernel, payloads: &mut [u8], tables: &mut [u8], log: &mut [u8]) -> Ru
             goes_on: false,
         };
     }
-    let n = io::count(head.record as isize, &record);
-    let m = io::count(head.chart as isize, &chart);
-    let ready = begin(k, head.is_fresh, payloads, tables, log);
-    let next = call_and_tell(
-        ready,
-        head,
-        &record[..n],
-        &chart[..m],
-        payloads,
-        tables,
-        log,
-    );
     Run {
-        kernel: next,
+        kernel: make(k, head, &record, &chart, payloads, tables, log),
         goes_on: true,
     }
 }

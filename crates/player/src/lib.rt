@@ -1,12 +1,14 @@
 // Plays a trace: takes it in piece by piece, finds the chart of a LOAD in its file, and has the kernel answer.
 ghost use Prim.Native.Nat.{_<_, _≤_};
 ghost use Rattle.io.specs.Counts.{Counts};
+ghost use Rattle.machine.specs.Numbers.{recordBytes, slots};
 ghost use Rattle.state.specs.View.{Good};
 use kernel::Answered;
 use kernel::Kernel;
 use numbers::LOG_AREA;
 use numbers::PAYLOAD_AREA;
 use numbers::RECORD_BYTES;
+use numbers::REPLY_BYTES;
 use numbers::TABLE_AREA;
 use numbers::command::LOAD;
 
@@ -18,9 +20,11 @@ pub const HERE: u8 = b'.';
 
 const SLOTS: u8 = numbers::SLOTS as u8;
 
+const RECORD: u64 = RECORD_BYTES as u64;
+
 // Reads the file of a slot's chart, and answers how many bytes it has. A file that is missing has none.
 fn read_chart(folder: u8, slot: u8, chart: &mut [u8]) -> usize
-    requires { ⌜ slot < 4 ⌝ }
+    requires { ⌜ slot < slots ⌝ }
     ensures { λ r. ⌜ Counts r (now (chart .exit)) ⌝ }
 {
     let path = [folder, b'/', b'c', b'h', b'a', b'r', b't', b'0' + slot];
@@ -44,7 +48,7 @@ fn answer_load(
     log: &mut [u8],
 ) -> Answered
     requires { ⌜ Good k ⌝ }
-    requires { ⌜ slot < 4 ⌝ }
+    requires { ⌜ slot < slots ⌝ }
     ensures { λ r. ⌜ Good (r .kernel) ⌝ }
 {
     let mut chart = [0u8; CHART_BYTES];
@@ -87,9 +91,9 @@ struct Piece {
 }
 
 fn at_most_a_record(left: u64) -> usize
-    ensures { λ r. ⌜ (r ≤ 72) × (r ≤ left) ⌝ }
+    ensures { λ r. ⌜ (r ≤ recordBytes) × (r ≤ left) ⌝ }
 {
-    if left < 72 {
+    if left < RECORD {
         left as usize
     } else {
         RECORD_BYTES
@@ -113,6 +117,15 @@ struct Run {
     left: u64,
 }
 
+// Writes a reply, and tells where it cannot be written.
+fn write_reply(reply: [u8; REPLY_BYTES]) -> bool {
+    if io::write_all(libc::STDOUT_FILENO, &reply) {
+        return true;
+    }
+    os::fail(b"a reply");
+    false
+}
+
 // Reads a piece, has it answered, and writes the reply. The run ends with the input, or where a reply cannot be written.
 fn turn(run: Run, folder: u8, payloads: &mut [u8], tables: &mut [u8], log: &mut [u8]) -> Run
     requires { ⌜ Good (run .kernel) ⌝ }
@@ -131,8 +144,7 @@ fn turn(run: Run, folder: u8, payloads: &mut [u8], tables: &mut [u8], log: &mut 
     let answered = answer(k, &bytes[..n], folder, payloads, tables, log);
     let next = answered.kernel;
     let reply = answered.reply;
-    if !io::write_all(libc::STDOUT_FILENO, &reply) {
-        os::fail(b"a reply");
+    if !write_reply(reply) {
         return Run {
             kernel: next,
             left: 0,

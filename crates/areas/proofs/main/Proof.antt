@@ -1,7 +1,9 @@
 -- The kernel stays good, the areas keep their lengths; the measure is the number of turns that are left.
 use mathlib.Core.Path.{_≡_}
+use Prim.Native.Nat.{_+_}
 use lib.ListN.{length}
 use borrow.Author.Needs.{needs}
+use Rattle.machine.specs.Numbers.{payloadBytes, tableBytes, logBytes}
 use Rattle.state.specs.View.{Good}
 use Rattle.areas.proofs.main.Statement.{statement}
 use Rattle.areas.proofs.main.Tie as tie
@@ -9,9 +11,9 @@ use Rattle.areas.proofs.main.Tie as tie
 abbrev Inv-loop : tie.InvT-loop
 Inv-loop payloads₀ tables₀ log₀ run₀ turns₀ payloads tables log run turns =
     (Good (run .kernel))
-    × (length payloads ≡ 1537)
-    × (length tables ≡ 64609)
-    × (length log ≡ 6121)
+    × (length payloads ≡ payloadBytes + 1)
+    × (length tables ≡ tableBytes + 1)
+    × (length log ≡ logBytes + 1)
 
 abbrev μ-loop : tie.MeasureT-loop
 μ-loop payloads₀ tables₀ log₀ run₀ turns₀ payloads tables log run turns = turns
