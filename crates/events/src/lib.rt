@@ -1,4 +1,4 @@
-// Events and their blocks.
+// Events: what is posted, published, held, released and dropped.
 pub mod records;
 
 ghost use mathlib.Core.Bool.{false};

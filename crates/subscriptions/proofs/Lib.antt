@@ -1,1 +1,2 @@
+-- Wants: SUBSCRIBE and UNSUBSCRIBE, what it says that none of their tests holds.
 pub mod Wants
