@@ -1,11 +1,14 @@
 // The kernel: one operation for any record, chart and areas.
 ghost use mathlib.Core.Path.{_≡_};
+ghost use Prim.Native.Nat.{_+_, _≤_};
+ghost use lib.ListN.{length};
 ghost use Rattle.state.specs.View.{answered, areas, Good, stateOf};
-ghost use Rattle.machine.specs.Machine.{answerTo, partOf};
+ghost use Rattle.machine.specs.Machine.{answerTo, partAt, partOf};
 ghost use Rattle.machine.specs.State.{freshState};
 use numbers::RECORD_BYTES;
 use numbers::answer::FORM;
 use numbers::command;
+pub use payloads::Part;
 pub use state::Answered;
 pub use state::Kernel;
 
@@ -28,6 +31,21 @@ pub fn read_part<'a>(k: Kernel, record: &[u8], payloads: &'a [u8]) -> &'a [u8]
         return &payloads[0..0];
     }
     payloads::records::read_part_of(k, record, payloads)
+}
+
+// Where that part begins in the payload area, and how long it is; 0 and 0 when refused, and for any other record.
+pub fn part_at(k: Kernel, record: &[u8], payloads: &[u8]) -> Part
+    requires { ⌜ Good k ⌝ }
+    ensures { λ r. ⌜ partAt (stateOf k) (now («record» .entry)) (now (payloads .entry)) ≡ (r .place, r .length) ⌝ }
+    ensures { λ r. ⌜ r .place + r .length ≤ length (now (payloads .entry)) ⌝ }
+{
+    if record.len() != RECORD_BYTES {
+        return payloads::no_part();
+    }
+    if record[0] != command::READ {
+        return payloads::no_part();
+    }
+    payloads::records::read_at_of(k, record, payloads)
 }
 
 // Any record, with the chart that LOAD loads, and the areas.

@@ -214,3 +214,7 @@ read spoilt b gen s z = unless (lowest (readTests spoilt b gen s (z .payloads)))
 -- That part; empty when refused.
 unfoldable pub readPart : Bool → ℕ → ℕ → State → List ℕ → List ℕ
 readPart spoilt b gen s payloads = cond (eqb (lowest (readTests spoilt b gen s payloads)) 0) (payloadOf s b payloads) []
+
+-- Where that part begins in the payload area, and how long it is; 0 and 0 when refused.
+unfoldable pub readAt : Bool → ℕ → ℕ → State → List ℕ → ℕ × ℕ
+readAt spoilt b gen s payloads = cond (eqb (lowest (readTests spoilt b gen s payloads)) 0) (placeOf b, sizeIn s b) (0, 0)

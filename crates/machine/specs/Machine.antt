@@ -7,7 +7,7 @@ use lib.ListN.{length, getD, drop}
 use Rattle.ground.specs.Bytes.{blank}
 use Rattle.machine.specs.Charts.{load, start}
 use Rattle.machine.specs.Clocks.{arm, disarm, tick}
-use Rattle.machine.specs.Events.{new, post, postFront, publish, subscribe, unsubscribe, hold, release, dropEvent, read, readPart}
+use Rattle.machine.specs.Events.{new, post, postFront, publish, subscribe, unsubscribe, hold, release, dropEvent, read, readPart, readAt}
 use Rattle.machine.specs.Numbers.{recordBytes, noSize}
 use Rattle.machine.specs.Reply.{FORM, no, Areas, Answer, answer}
 use Rattle.machine.specs.State.{State}
@@ -64,3 +64,7 @@ answerTo s r d z = choose (eqb (length r) recordBytes) (command (arg r 0) r d s 
 -- The part of the payload area that READ hands back; empty for any other record.
 unfoldable pub partOf : State → List ℕ → List ℕ → List ℕ
 partOf s r payloads = cond (eqb (length r) recordBytes && eqb (arg r 0) 17) (readPart (spoilt 2 r) (arg r 1) (arg r 2) s payloads) []
+
+-- Where that part begins in the payload area, and how long it is; 0 and 0 when READ is refused, and for any other record.
+unfoldable pub partAt : State → List ℕ → List ℕ → ℕ × ℕ
+partAt s r payloads = cond (eqb (length r) recordBytes && eqb (arg r 0) 17) (readAt (spoilt 2 r) (arg r 1) (arg r 2) s payloads) (0, 0)

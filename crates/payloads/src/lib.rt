@@ -6,7 +6,7 @@ ghost use mathlib.Core.Path.{_≡_};
 ghost use Prim.Native.Nat.{ℕ, _+_, _<_, _≤_};
 ghost use lib.ListN.{getD, length};
 ghost use Rattle.machine.specs.Events as machine;
-ghost use Rattle.machine.specs.Events.{newEvent, newIn, payloadOf, readPart, readTests};
+ghost use Rattle.machine.specs.Events.{newEvent, newIn, payloadOf, readAt, readPart, readTests};
 ghost use Rattle.machine.specs.Numbers.{placeOf, blocks, mostBytes, payloadBytes};
 ghost use Rattle.machine.specs.Reply.{lowest};
 ghost use Rattle.pool.specs.Cell.{handedOut};
@@ -25,6 +25,12 @@ use refusals::read_refusal;
 use state::Answered;
 use state::Kernel;
 use state::refuse;
+
+// Where a part of the payload area begins, and how long it is.
+pub struct Part {
+    pub place: usize,
+    pub length: usize,
+}
 
 // The event in block b, which the pool has handed out: its signal, its size, no holds.
 fn new_event(mut k: Kernel, pool: Pool, b: usize, g: u8, size: u8) -> Kernel
@@ -141,4 +147,31 @@ pub fn read_part<'a>(
         return &payloads[0..0];
     }
     payload_in(k, b, payloads)
+}
+
+// The place and the length that a refused READ has.
+pub fn no_part() -> Part
+    ensures { λ r. ⌜ (r .place ≡ 0) × (r .length ≡ 0) ⌝ }
+{
+    Part {
+        place: 0,
+        length: 0,
+    }
+}
+
+// Where that part begins, and how long it is; 0 and 0 when refused.
+pub fn read_at(k: Kernel, spoilt: bool, b: usize, generation: u8, payloads: &[u8]) -> Part
+    requires { ⌜ Good k ⌝ }
+    ensures { λ r. ⌜ readAt spoilt b generation (stateOf k) (now (payloads .entry)) ≡ (r .place, r .length) ⌝ }
+    ensures { λ r. ⌜ r .place + r .length ≤ length (now (payloads .entry)) ⌝ }
+{
+    let no = read_no(k, spoilt, b, generation, payloads);
+    if no != 0 {
+        return no_part();
+    }
+    let sizes = k.sizes;
+    Part {
+        place: place_of(b),
+        length: wide(sizes[b]),
+    }
 }

@@ -1,13 +1,14 @@
 // What a record's bytes are to NEW and READ.
 ghost use mathlib.Core.List.{List};
 ghost use mathlib.Core.Path.{_≡_};
-ghost use Prim.Native.Nat.{ℕ};
+ghost use Prim.Native.Nat.{ℕ, _+_, _≤_};
 ghost use lib.ListN.{getD, length};
-ghost use Rattle.machine.specs.Events.{readPart};
+ghost use Rattle.machine.specs.Events.{readAt, readPart};
 ghost use Rattle.machine.specs.Machine as machine;
 ghost use Rattle.machine.specs.Machine.{command};
 ghost use Rattle.machine.specs.Numbers.{recordBytes};
 ghost use Rattle.state.specs.View.{answered, areas, Good, stateOf};
+use super::Part;
 use arguments::FIRST_PAYLOAD;
 use arguments::arg;
 use arguments::spoilt;
@@ -56,6 +57,22 @@ pub fn read_part_of<'a>(k: Kernel, record: &[u8], payloads: &'a [u8]) -> &'a [u8
         (stateOf k) (now (payloads .entry)) ⌝ }
 {
     super::read_part(
+        k,
+        spoilt(record, 2),
+        arg(record, 1),
+        byte_at(record, 2),
+        payloads,
+    )
+}
+
+// Where that part begins, and how long it is.
+pub fn read_at_of(k: Kernel, record: &[u8], payloads: &[u8]) -> Part
+    requires { ⌜ Good k ⌝ }
+    ensures { λ r. ⌜ readAt (machine.spoilt 2 (now («record» .entry))) (getD (now («record» .entry)) 1 0) (getD (now («record» .entry)) 2 0)
+        (stateOf k) (now (payloads .entry)) ≡ (r .place, r .length) ⌝ }
+    ensures { λ r. ⌜ r .place + r .length ≤ length (now (payloads .entry)) ⌝ }
+{
+    super::read_at(
         k,
         spoilt(record, 2),
         arg(record, 1),

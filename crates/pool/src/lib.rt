@@ -27,6 +27,7 @@ const LAST: u16 = 2;
 
 const MOST: u16 = 65535;
 
+#[repr(C)]
 pub struct Pool {
     gens: [u8; BLOCKS],
     counts: [u16; BLOCKS],

@@ -16,6 +16,7 @@ use pool::Pool;
 // The entry in hand while no step is open.
 pub const NO_EVENT: u16 = 0;
 
+#[repr(C)]
 pub struct Kernel {
     pub pool: Pool,
     pub signals: [u8; BLOCKS],

@@ -1,0 +1,93 @@
+// The kernel for a host in C or Rust, which keeps the struct and the areas as plain memory.
+//
+// The walk of a reference to a struct is proved by hand, so each exported function is one line over a function that takes the struct itself.
+ghost use mathlib.Core.Path.{_≡_};
+ghost use lib.ListN.{drop, take};
+ghost use Rattle.host.specs.Told.{told};
+ghost use Rattle.machine.specs.Machine.{answerTo, partAt, partOf};
+ghost use Rattle.machine.specs.State.{freshState};
+ghost use Rattle.state.specs.View.{answered, areas, Good, stateOf};
+use kernel::Kernel;
+use numbers::REPLY_BYTES;
+
+// A fresh kernel.
+fn made() -> Kernel
+    ensures { λ r. ⌜ (stateOf r ≡ freshState) × Good r ⌝ }
+{
+    kernel::fresh()
+}
+
+// The kernel after a command, whose reply is written.
+fn answer(
+    k: Kernel,
+    record: &[u8],
+    chart: &[u8],
+    payloads: &mut [u8],
+    tables: &mut [u8],
+    log: &mut [u8],
+    reply: &mut [u8; REPLY_BYTES],
+) -> Kernel
+    requires { ⌜ Good k ⌝ }
+    ensures { λ r. ⌜ Good r
+        × (answered (told r (now (reply .exit))) (areas (now (payloads .exit)) (now (tables .exit)) (now (log .exit)))
+        ≡ answerTo (stateOf k) (now («record» .entry)) (now (chart .entry))
+        (areas (now (payloads .entry)) (now (tables .entry)) (now (log .entry)))) ⌝ }
+{
+    let a = kernel::command(k, record, chart, payloads, tables, log);
+    let bytes = a.reply;
+    *reply = bytes;
+    a.kernel
+}
+
+// Writes where the part that READ hands back begins, and how long it is.
+fn find_part(k: Kernel, record: &[u8], payloads: &[u8], place: &mut usize, length: &mut usize)
+    ensures { λ _. ⌜ (partAt (stateOf k) (now («record» .entry)) (now (payloads .entry)) ≡ (now (place .exit), now (length .exit)))
+        × (take (now (length .exit)) (drop (now (place .exit)) (now (payloads .entry))) ≡ partOf (stateOf k) (now («record» .entry)) (now (payloads .entry))) ⌝ }
+{
+    let part = kernel::part_at(k, record, payloads);
+    *place = part.place;
+    *length = part.length;
+}
+
+// Makes a fresh kernel.
+#[no_mangle]
+pub extern "C" fn trunhoac_fresh(k: &mut Kernel)
+    ensures { λ _. ⌜ (stateOf (now (k .exit)) ≡ freshState) × Good (now (k .exit)) ⌝ }
+{
+    *k = made();
+}
+
+// Any record, with the chart that LOAD loads, and the areas.
+#[no_mangle]
+pub extern "C" fn trunhoac_command(
+    k: &mut Kernel,
+    record: &[u8],
+    chart: &[u8],
+    payloads: &mut [u8],
+    tables: &mut [u8],
+    log: &mut [u8],
+    reply: &mut [u8; REPLY_BYTES],
+)
+    requires { ⌜ Good (now k) ⌝ }
+    ensures { λ _. ⌜ Good (now (k .exit))
+        × (answered (told (now (k .exit)) (now (reply .exit))) (areas (now (payloads .exit)) (now (tables .exit)) (now (log .exit)))
+        ≡ answerTo (stateOf (now (k .entry))) (now («record» .entry)) (now (chart .entry))
+        (areas (now (payloads .entry)) (now (tables .entry)) (now (log .entry)))) ⌝ }
+{
+    *k = answer(*k, record, chart, payloads, tables, log, reply);
+}
+
+// Where the part that READ hands back begins in the payload area, and how long it is; 0 and 0 when refused, and for any other record.
+#[no_mangle]
+pub extern "C" fn trunhoac_read(
+    k: &Kernel,
+    record: &[u8],
+    payloads: &[u8],
+    place: &mut usize,
+    length: &mut usize,
+)
+    ensures { λ _. ⌜ (partAt (stateOf (now (k .entry))) (now («record» .entry)) (now (payloads .entry)) ≡ (now (place .exit), now (length .exit)))
+        × (take (now (length .exit)) (drop (now (place .exit)) (now (payloads .entry))) ≡ partOf (stateOf (now (k .entry))) (now («record» .entry)) (now (payloads .entry))) ⌝ }
+{
+    find_part(*k, record, payloads, place, length);
+}

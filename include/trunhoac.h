@@ -1,0 +1,285 @@
+/*
+ * Trunhoac for a host in C: the event kernel, the chart check and the flattener.
+ *
+ * Every call is proved. For any bytes that it is handed it answers, never
+ * traps, and writes what document 01 says and nothing else. What the proofs
+ * count on, and the host owes:
+ *
+ *   - behind each pointer are as many bytes as its length says (a pointer whose
+ *     length is 0 is never followed and may be NULL), or as its type says;
+ *   - no two things that one call is lent overlap, and nobody else writes to
+ *     them during the call;
+ *   - a kernel is first made by trunhoac_fresh, and after that only
+ *     trunhoac_command writes to it.
+ *
+ * Nothing is kept between calls but the kernel, and that has no pointer in it:
+ * it may be copied, stored and moved, and there may be any number of them.
+ */
+#ifndef TRUNHOAC_H
+#define TRUNHOAC_H
+
+#include <stddef.h>
+#include <stdint.h>
+#include <string.h>
+
+#ifdef __cplusplus
+extern "C" {
+#endif
+
+/* The kernel's memory, of this size and alignment. What it holds is the kernel's own. */
+struct trunhoac_kernel {
+    uint16_t memory[771];
+};
+
+/* The lengths of a record, of a reply and of the three areas that the host lends. */
+enum {
+    TRUNHOAC_RECORD_BYTES = 72,
+    TRUNHOAC_REPLY_BYTES = 24,
+    TRUNHOAC_PAYLOAD_AREA = 1536,
+    TRUNHOAC_TABLE_AREA = 64608,
+    TRUNHOAC_LOG_AREA = 6120
+};
+
+/* The most bytes that a chart and a payload have, and the length of a slot, which takes the flat table of one chart. */
+enum {
+    TRUNHOAC_MOST_CHART_BYTES = 5576,
+    TRUNHOAC_MOST_PAYLOAD_BYTES = 64,
+    TRUNHOAC_SLOT_BYTES = 16152
+};
+
+/* The commands. */
+enum {
+    TRUNHOAC_LOAD = 1,
+    TRUNHOAC_START = 2,
+    TRUNHOAC_NEW = 3,
+    TRUNHOAC_POST = 4,
+    TRUNHOAC_POSTFRONT = 5,
+    TRUNHOAC_PUBLISH = 6,
+    TRUNHOAC_SUBSCRIBE = 7,
+    TRUNHOAC_UNSUBSCRIBE = 8,
+    TRUNHOAC_HOLD = 9,
+    TRUNHOAC_RELEASE = 10,
+    TRUNHOAC_DROP = 11,
+    TRUNHOAC_NEXT = 12,
+    TRUNHOAC_END = 13,
+    TRUNHOAC_ARM = 14,
+    TRUNHOAC_DISARM = 15,
+    TRUNHOAC_TICK = 16,
+    TRUNHOAC_READ = 17,
+    TRUNHOAC_DRAIN = 18
+};
+
+/* The first byte of a reply. After a refusal only the reply is written. */
+enum {
+    TRUNHOAC_DONE = 0,
+    TRUNHOAC_FORM = 1,    /* not 72 bytes, unknown command, an unused byte that is not 0 */
+    TRUNHOAC_AREA = 2,    /* an area that the command uses has another length */
+    TRUNHOAC_RANGE = 3,   /* an argument out of range */
+    TRUNHOAC_BUSY = 4,    /* a step is open */
+    TRUNHOAC_NOSTEP = 5,  /* none is */
+    TRUNHOAC_IDLE = 6,    /* nothing is queued */
+    TRUNHOAC_STALE = 7,   /* the handle is stale */
+    TRUNHOAC_ABSENT = 8,  /* the object is not started, the slot is not loaded */
+    TRUNHOAC_TAKEN = 9,   /* the object is started, the slot in use, the timer armed */
+    TRUNHOAC_FULL = 10,   /* no place in the mailbox */
+    TRUNHOAC_DRY = 11,    /* no free block in the pool */
+    TRUNHOAC_HOLDS = 12,  /* HOLD at 15, RELEASE at 0 */
+    TRUNHOAC_INUSE = 13,  /* DROP of an event that is counted */
+    TRUNHOAC_CHART = 14,  /* the chart is refused: the first value is its class */
+    TRUNHOAC_TABLE = 15   /* the row is not sound */
+};
+
+/* What the bytes of a reply are. */
+enum {
+    TRUNHOAC_AT_NUMBER = 0,
+    TRUNHOAC_AT_OBJECT = 1,
+    TRUNHOAC_AT_OUTCOME = 2, /* outcome * 32 + signal: trunhoac_outcome, trunhoac_signal */
+    TRUNHOAC_AT_COUNT = 3,
+    TRUNHOAC_AT_VALUES = 4,
+    TRUNHOAC_AT_ACTIONS = 6
+};
+
+/* Makes a fresh kernel, whatever the memory held. */
+void trunhoac_fresh(struct trunhoac_kernel *kernel);
+
+/*
+ * Answers a record of any length. The chart is read by LOAD alone; the areas
+ * may have any length, and a command that uses one of another length than its
+ * own is refused.
+ */
+void trunhoac_command(struct trunhoac_kernel *kernel,
+                      const uint8_t *record, size_t record_length,
+                      const uint8_t *chart, size_t chart_length,
+                      uint8_t *payloads, size_t payloads_length,
+                      uint8_t *tables, size_t tables_length,
+                      uint8_t *log, size_t log_length,
+                      uint8_t reply[TRUNHOAC_REPLY_BYTES]);
+
+/*
+ * Writes where in the payload area the payload begins that a READ record hands
+ * back, and how long it is: 0 and 0 when the READ is refused, and for any
+ * other record. What it names lies within the area.
+ */
+void trunhoac_read(const struct trunhoac_kernel *kernel,
+                   const uint8_t *record, size_t record_length,
+                   const uint8_t *payloads, size_t payloads_length,
+                   size_t *place, size_t *length);
+
+/*
+ * The chart check and the flattener answer 0 for a good chart, else the lowest
+ * class of its faults:
+ *
+ *   1  the length is 0, not a multiple of 8, or above 5,576
+ *   2  an unknown record kind, kinds out of order, a filler byte that is not 0,
+ *      no state or more than 24
+ *   3  a fault of the states: parent, level, initial target or action, top target
+ *   4  a fault of the rows: state, signal, kind, target, or their order
+ *   5  only from the flattener: the chart is good, but the slot has another length
+ *
+ * The flattener writes the whole slot when it answers 0, and otherwise nothing.
+ */
+uint32_t chart_check(const uint8_t *chart, size_t chart_length);
+
+uint32_t chart_flatten(const uint8_t *chart, size_t chart_length,
+                       uint8_t *slot, size_t slot_length);
+
+/* A handle: an event's block and its generation, which NEW answers and NEXT too where the event is no timer's. */
+struct trunhoac_handle {
+    uint8_t block;
+    uint8_t generation;
+};
+
+/* ---- What a reply says ---- */
+
+static inline struct trunhoac_handle trunhoac_handle_in(const uint8_t *reply)
+{
+    struct trunhoac_handle handle = {reply[TRUNHOAC_AT_VALUES], reply[TRUNHOAC_AT_VALUES + 1]};
+    return handle;
+}
+
+/* 0 ignored, 1 internal, 2 a transition. */
+static inline uint8_t trunhoac_outcome(const uint8_t *reply)
+{
+    return reply[TRUNHOAC_AT_OUTCOME] / 32;
+}
+
+static inline uint8_t trunhoac_signal(const uint8_t *reply)
+{
+    return reply[TRUNHOAC_AT_OUTCOME] % 32;
+}
+
+/* ---- Records: each function fills one with a command; p is an object's priority ---- */
+
+static inline void trunhoac_fill(uint8_t *record, uint8_t command,
+                                 uint8_t first, uint8_t second, uint8_t third, uint8_t fourth)
+{
+    memset(record, 0, TRUNHOAC_RECORD_BYTES);
+    record[0] = command;
+    record[1] = first;
+    record[2] = second;
+    record[3] = third;
+    record[4] = fourth;
+}
+
+static inline void trunhoac_fill_load(uint8_t *record, uint8_t slot)
+{
+    trunhoac_fill(record, TRUNHOAC_LOAD, slot, 0, 0, 0);
+}
+
+static inline void trunhoac_fill_start(uint8_t *record, uint8_t p, uint8_t slot, uint8_t depth)
+{
+    trunhoac_fill(record, TRUNHOAC_START, p, slot, depth, 0);
+}
+
+/* A size above 64 is refused by the kernel; the payload is then not read. */
+static inline void trunhoac_fill_new(uint8_t *record, uint8_t signal, const uint8_t *payload, uint8_t size)
+{
+    trunhoac_fill(record, TRUNHOAC_NEW, signal, size, 0, 0);
+    if (size > 0 && size <= TRUNHOAC_MOST_PAYLOAD_BYTES)
+        memcpy(record + 8, payload, size);
+}
+
+static inline void trunhoac_fill_post(uint8_t *record, struct trunhoac_handle event, uint8_t p, uint8_t margin)
+{
+    trunhoac_fill(record, TRUNHOAC_POST, event.block, event.generation, p, margin);
+}
+
+static inline void trunhoac_fill_postfront(uint8_t *record, struct trunhoac_handle event, uint8_t p)
+{
+    trunhoac_fill(record, TRUNHOAC_POSTFRONT, event.block, event.generation, p, 0);
+}
+
+static inline void trunhoac_fill_publish(uint8_t *record, struct trunhoac_handle event)
+{
+    trunhoac_fill(record, TRUNHOAC_PUBLISH, event.block, event.generation, 0, 0);
+}
+
+static inline void trunhoac_fill_subscribe(uint8_t *record, uint8_t p, uint8_t signal)
+{
+    trunhoac_fill(record, TRUNHOAC_SUBSCRIBE, p, signal, 0, 0);
+}
+
+static inline void trunhoac_fill_unsubscribe(uint8_t *record, uint8_t p, uint8_t signal)
+{
+    trunhoac_fill(record, TRUNHOAC_UNSUBSCRIBE, p, signal, 0, 0);
+}
+
+static inline void trunhoac_fill_hold(uint8_t *record, struct trunhoac_handle event)
+{
+    trunhoac_fill(record, TRUNHOAC_HOLD, event.block, event.generation, 0, 0);
+}
+
+static inline void trunhoac_fill_release(uint8_t *record, struct trunhoac_handle event)
+{
+    trunhoac_fill(record, TRUNHOAC_RELEASE, event.block, event.generation, 0, 0);
+}
+
+static inline void trunhoac_fill_drop(uint8_t *record, struct trunhoac_handle event)
+{
+    trunhoac_fill(record, TRUNHOAC_DROP, event.block, event.generation, 0, 0);
+}
+
+static inline void trunhoac_fill_next(uint8_t *record)
+{
+    trunhoac_fill(record, TRUNHOAC_NEXT, 0, 0, 0, 0);
+}
+
+static inline void trunhoac_fill_end(uint8_t *record)
+{
+    trunhoac_fill(record, TRUNHOAC_END, 0, 0, 0, 0);
+}
+
+static inline void trunhoac_fill_arm(uint8_t *record, uint8_t timer, uint8_t p, uint8_t signal,
+                                     uint16_t ticks, uint16_t interval)
+{
+    trunhoac_fill(record, TRUNHOAC_ARM, timer, p, signal, (uint8_t)ticks);
+    record[5] = (uint8_t)(ticks >> 8);
+    record[6] = (uint8_t)interval;
+    record[7] = (uint8_t)(interval >> 8);
+}
+
+static inline void trunhoac_fill_disarm(uint8_t *record, uint8_t timer)
+{
+    trunhoac_fill(record, TRUNHOAC_DISARM, timer, 0, 0, 0);
+}
+
+static inline void trunhoac_fill_tick(uint8_t *record)
+{
+    trunhoac_fill(record, TRUNHOAC_TICK, 0, 0, 0, 0);
+}
+
+static inline void trunhoac_fill_read(uint8_t *record, struct trunhoac_handle event)
+{
+    trunhoac_fill(record, TRUNHOAC_READ, event.block, event.generation, 0, 0);
+}
+
+static inline void trunhoac_fill_drain(uint8_t *record, uint8_t budget)
+{
+    trunhoac_fill(record, TRUNHOAC_DRAIN, budget, 0, 0, 0);
+}
+
+#ifdef __cplusplus
+}
+#endif
+
+#endif
