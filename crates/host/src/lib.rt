@@ -2,6 +2,8 @@
 //
 // The walk of a reference to a struct is proved by hand, so each exported function is one line over a function that takes the struct itself.
 ghost use mathlib.Core.Path.{_≡_};
+ghost use Prim.Native.Nat.{_+_, _≤_};
+ghost use lib.ListN as List;
 ghost use lib.ListN.{drop, take};
 ghost use Rattle.host.specs.Told.{told};
 ghost use Rattle.machine.specs.Machine.{answerTo, partAt, partOf};
@@ -41,8 +43,10 @@ fn answer(
 
 // Writes where the part that READ hands back begins, and how long it is.
 fn find_part(k: Kernel, record: &[u8], payloads: &[u8], place: &mut usize, length: &mut usize)
+    requires { ⌜ Good k ⌝ }
     ensures { λ _. ⌜ (partAt (stateOf k) (now («record» .entry)) (now (payloads .entry)) ≡ (now (place .exit), now (length .exit)))
-        × (take (now (length .exit)) (drop (now (place .exit)) (now (payloads .entry))) ≡ partOf (stateOf k) (now («record» .entry)) (now (payloads .entry))) ⌝ }
+        × (take (now (length .exit)) (drop (now (place .exit)) (now (payloads .entry))) ≡ partOf (stateOf k) (now («record» .entry)) (now (payloads .entry)))
+        × (now (place .exit) + now (length .exit) ≤ List.length (now (payloads .entry))) ⌝ }
 {
     let part = kernel::part_at(k, record, payloads);
     *place = part.place;
@@ -86,8 +90,10 @@ pub extern "C" fn trunhoac_read(
     place: &mut usize,
     length: &mut usize,
 )
+    requires { ⌜ Good (now k) ⌝ }
     ensures { λ _. ⌜ (partAt (stateOf (now (k .entry))) (now («record» .entry)) (now (payloads .entry)) ≡ (now (place .exit), now (length .exit)))
-        × (take (now (length .exit)) (drop (now (place .exit)) (now (payloads .entry))) ≡ partOf (stateOf (now (k .entry))) (now («record» .entry)) (now (payloads .entry))) ⌝ }
+        × (take (now (length .exit)) (drop (now (place .exit)) (now (payloads .entry))) ≡ partOf (stateOf (now (k .entry))) (now («record» .entry)) (now (payloads .entry)))
+        × (now (place .exit) + now (length .exit) ≤ List.length (now (payloads .entry))) ⌝ }
 {
     find_part(*k, record, payloads, place, length);
 }
