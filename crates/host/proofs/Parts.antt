@@ -12,7 +12,7 @@ use Rattle.machine.specs.Reply.{lowest}
 use Rattle.machine.specs.State.{State, sizeIn}
 
 -- the part of l that begins at a place and has a length
-abbrev lies : List ℕ → ℕ × ℕ → List ℕ
+abbrev pub lies : List ℕ → ℕ × ℕ → List ℕ
 lies l p = take (p .1) (drop (p .0) l)
 
 -- a part that is there only where the test passes is found in the same way

@@ -5,6 +5,8 @@ ghost use mathlib.Core.Path.{_≡_};
 ghost use Prim.Native.Nat.{_+_, _≤_};
 ghost use lib.ListN as List;
 ghost use lib.ListN.{drop, take};
+ghost use Rattle.chart.specs.Chart.{classOf};
+ghost use Rattle.chart.specs.Flat.{flattened};
 ghost use Rattle.host.specs.Told.{told};
 ghost use Rattle.machine.specs.Machine.{answerTo, partAt, partOf};
 ghost use Rattle.machine.specs.State.{freshState};
@@ -96,4 +98,19 @@ pub extern "C" fn trunhoac_read(
         × (now (place .exit) + now (length .exit) ≤ List.length (now (payloads .entry))) ⌝ }
 {
     find_part(*k, record, payloads, place, length);
+}
+
+// The two chart calls under their own names, so that one library has all.
+#[no_mangle]
+pub extern "C" fn chart_check(chart: &[u8]) -> u32
+    ensures { λ r. ⌜ r ≡ classOf (now (chart .entry)) ⌝ }
+{
+    flattener::chart_check(chart)
+}
+
+#[no_mangle]
+pub extern "C" fn chart_flatten(chart: &[u8], table: &mut [u8]) -> u32
+    ensures { λ r. ⌜ (r ≡ flattened (now (chart .entry)) (now (table .entry)) .0) × (now (table .exit) ≡ flattened (now (chart .entry)) (now (table .entry)) .1) ⌝ }
+{
+    flattener::chart_flatten(chart, table)
 }
