@@ -1,5 +1,5 @@
--- `host::trunhoac_read` meets its contract: a walk of its MIR, by hand. The borrow of the struct is looked into, the struct is copied out, and the borrow is shut again; the copy and the other
--- borrows go to `find_part` for good.
+-- A walk of `host::trunhoac_read`: the borrow of the struct is looked into, the struct is copied out, and the borrow is shut again; the copy and the other borrows are given to `find_part`
+-- for good. All that the walk knows of `find_part` is that it meets its contract.
 use mathlib.Core.Path.{_≡_, refl}
 use Prim.Native.Nat.{ℕ, _+_, _≤_}
 use mathlib.Core.List.{[], _∷_, List}
@@ -11,14 +11,14 @@ use base.Logic.{SProp, ent, sep, id⊢}
 use base.Fml.{GName, Lft, Share, Fml, ftrue, fsep, flft, fres}
 use prog.Memory.{Memory}
 use prog.Routine.{Routine}
-use prog.Wp.{Heap, Calls, Loops, WpFn, Tables}
+use prog.Wp.{Heap, Calls, Loops, WpFn}
 use ghost.Atoms.{Atoms, sem}
 use contract.Monad.{Fun, fact}
 use contract.Lifetimes.{Lfts, Shares}
-use contract.Running.{givenOf, tables, tablesOf}
+use contract.Running.{givenOf, tables}
 use types.Kit.{Given, ‵, raw, _⊛_, ⋆, some, later, _$_, _∵_, !, qed, by, move, keep, drop, use1, use3, split, join, pick, fsplit, fsplit3, fjoin, feqI, suffices, frame, await, done}
-use types.Run.{look, look-raw, init, forget, stop, hop, from, load, addr, unit-lit, of-opd, and-then, no-more, assigns, land, returns, enter, alloc1, alloc0, params1, pass1, pass0, free1, free0}
-use sound.WpLaws.{FmC, fmOf, WpFn-mono}
+use types.Run.{look, look-raw, init, stop, hop, from, load, addr, unit-lit, of-opd, and-then, no-more, assigns, land, returns, enter, alloc1, alloc0, params1, pass1, pass0, free0}
+use sound.WpLaws.{FmC}
 use denote.RattleType.{RattleType, owns}
 use denote.Laws.{Is, shows}
 use denote.Plain.{nothing-lawful}
@@ -26,22 +26,18 @@ use denote.Builtin.{u8, usize, unit}
 use denote.Ref.{RefT, ShrRef, MutRef, ptr-vals, shr-tells, mut-tells}
 use denote.Slice.{ShrSlice, slice-vals, shr-slice-tells}
 use denote.Signature.{Slot, plain, shrRefTo, shrSliceOf}
-use denote.Steps.{only, looks, shuts, peeks, heard, nothing}
-use denote.Struct.Steps.{spelt}
-use denote.Struct.Laws as LL
+use denote.Steps.{only, peeks, heard, nothing}
 use denote.Triple.Statement.{Contract, Triple}
 use denote.Triple.Call.{calls-at}
 use denote.Triple.Clauses.{Lasts, ensured, lasts}
 use denote.Triple.Entry.{alive, onEntry}
-use denote.Triple.Spec.{Meets, tripleOf}
-use denote.Triple.Table.{entered, cited}
-use denote.Triple.Walked.{says, needs, Stays, stay-dropped, gave-ref, walkOf, AllGo, goes-dropped, goes-gave-ref, Walks, ends-at, walked, walk-meets}
+use denote.Triple.Spec.{tripleOf}
+use denote.Triple.Walked.{says, needs, Stays, stay-dropped, gave-ref, walkOf, AllGo, goes-dropped, goes-gave-ref, Walks, ends-at, walked}
 use denote.Exit.{yes}
 use Rattle.machine.specs.Machine.{partAt, partOf}
 use Rattle.state.specs.View.{Good, stateOf}
 use Rattle.state.specs.declared.Kernel.{Kernel}
-use Rattle.state.proofs.Kernel as T
-use Rattle.state.proofs.Kernel.Laws as T′
+use Rattle.host.proofs.Walk.{at-local, in-order, struct, value, typed, gone, held, looked, shut-copied, met}
 use Rattle.host.proofs.find_part as callee
 use Rattle.host.proofs.find_part.Symbol as callee-def
 use Rattle.host.proofs.find_part.Symbol.{name as #callee}
@@ -61,11 +57,15 @@ abbrev Number : Slot 5
 Number = plain (λ _. usize)
 
 abbrev Struct : Slot 5
-Struct = plain (λ _. T.the-row)
+Struct = plain (λ _. struct)
 
 -- what is passed on: two slices that are read, and two numbers that are written
 abbrev Four : Type 0
 Four = Slice × (Slice × (RefT ℕ × (RefT ℕ × Unit {0})))
+
+-- where a local stands, behind so many entries
+abbrev p : ℕ → ℕ → ℕ
+p = at-local 10
 
 abbrev stayed : Stays (f.ended .signature .params) (f.ended .kept)
 stayed = (
@@ -102,9 +102,6 @@ module _ {M : Type 1} (𝓤 : URA M) (H : Heap 𝓤) (A : Atoms 𝓤) (W : Given
   abbrev at : List Val × Four-vals
   at = (vptr b o ∷ [], vals)
 
-  abbrev mach : Val
-  mach = LL.tuple-val T.the-type T′.the-laws (T.the-type .to h)
-
   abbrev Types : List RattleType
   Types = ShrSlice (named 0) (κs .0) u8 ∷ ShrSlice (named 1) (κs .1 .0) u8 ∷ MutRef (named 2) (κs .1 .1 .0) usize ∷ MutRef (named 3) (κs .1 .1 .1 .0) usize ∷ []
 
@@ -125,10 +122,7 @@ module _ {M : Type 1} (𝓤 : URA M) (H : Heap 𝓤) (A : Atoms 𝓤) (W : Given
 
   -- what the callee's triple binds outside: the borrows' own lifetimes, shares and names
   abbrev to-callee : Callee 𝓤 H A at-mem run .Ghost
-  to-callee = ((κs, qs, tt, args, (mach ∷ [], vals)), tt)
-
-  abbrev Needed : Type 0
-  Needed = Good h
+  to-callee = ((κs, qs, tt, args, (value h, vals)), tt)
 
   abbrev Ensured : Lasts callee.ended κs args → Type 0
   Ensured ws = (partAt (stateOf h) (x₁ .now) (x₂ .now) ≡ (ws .1 .1 .1 .0, ws .1 .1 .1 .1 .0))
@@ -139,8 +133,8 @@ module _ {M : Type 1} (𝓤 : URA M) (H : Heap 𝓤) (A : Atoms 𝓤) (W : Given
   abbrev Said : Lasts callee.ended κs args → Fml
   Said ws = fsep (fres (x₃ .name) (usize .coded .code (ws .1 .1 .1 .0))) (fsep (fres (x₄ .name) (usize .coded .code (ws .1 .1 .1 .1 .0))) ftrue)
 
-  goes : Needed → ent 𝓤 (sep 𝓤 Alive (sep 𝓤 (sem 𝓤 H A (T.the-row .own h (mach ∷ []))) (sem 𝓤 H A Rest))) (Callee 𝓤 H A at-mem run .pre to-callee)
-  goes good = qed W (raw Alive ∷ ‵ (T.the-row .own h (mach ∷ [])) ∷ ‵ Rest ∷ []) ∵ says ! good $ frame ! $ fjoin ! $ done !
+  goes : Good h → ent 𝓤 (sep 𝓤 Alive (sep 𝓤 (sem 𝓤 H A (struct .own h (value h))) (sem 𝓤 H A Rest))) (Callee 𝓤 H A at-mem run .pre to-callee)
+  goes good = qed W (raw Alive ∷ ‵ (struct .own h (value h)) ∷ ‵ Rest ∷ []) ∵ says ! good $ frame ! $ fjoin ! $ done !
 
   exits : (ws : Lasts callee.ended κs args) → Ensured ws → ent 𝓤 (⋆ 𝓤 H A (‵ (flft κ q) ∷ raw Alive ∷ ‵ (Said ws) ∷ [])) (Post vunit)
   exits ws e =
@@ -149,66 +143,72 @@ module _ {M : Type 1} (𝓤 : URA M) (H : Heap 𝓤) (A : Atoms 𝓤) (W : Given
       join ! $ frame ! $ nothing ! $ fjoin ! $ nothing ! $ fjoin ! $ nothing ! $ fjoin ! $ feqI ! (List Val) (vunit ∷ []) (vunit ∷ []) refl $ move ! (1 ∷ 0 ∷ []) $ done !
 
   module _ (C : Calls 𝓤 H) (Λ : Loops 𝓤 H) (fm : FmC 𝓤 H (W .laws) C) (known : Triple 𝓤 (C #callee) (Callee 𝓤 H A at-mem run)) where
-    walk : Needed → Is (ShrSlice (named 1) (κs .0) u8) x₁ (slice-vals x₁) → Is (ShrSlice (named 2) (κs .1 .0) u8) x₂ (slice-vals x₂)
+    walk : Good h → Is (ShrSlice (named 1) (κs .0) u8) x₁ (slice-vals x₁) → Is (ShrSlice (named 2) (κs .1 .0) u8) x₂ (slice-vals x₂)
         → ent 𝓤 (onEntry 𝓤 H A f.signature (κ, κs) (q, qs) a at)
         (WpFn 𝓤 H C Λ code.function (vptr b o ∷ only (slice-vals x₁) ∷ only (slice-vals x₂) ∷ only (ptr-vals x₃) ∷ only (ptr-vals x₄) ∷ []) Post)
     walk good g₁ g₂ =
-        qed W ((‵ (flft κ q) ⊛ raw Alive) ∷ ‵ (fsep (ShrRef (named 0) κ T.the-row .own (a .0) (vptr b o ∷ [])) Rest) ∷ []) ∵ split ! $ move ! (2 ∷ []) $ fsplit ! $ fsplit3 ! $ drop ! $ drop ! $ move ! (0 ∷ 2 ∷ []) $
+        qed W ((‵ (flft κ q) ⊛ raw Alive) ∷ ‵ (fsep (ShrRef (named 0) κ struct .own (a .0) (vptr b o ∷ [])) Rest) ∷ []) ∵ split ! $ move ! (2 ∷ []) $ fsplit ! $ fsplit3 ! $ drop ! $ drop ! $ move ! (0 ∷ 2 ∷ []) $
         -- [the borrow; its token; what the four others own; their tokens]
         enter ! C Λ code.function _ _ $
         alloc1 ! (λ l0. alloc1 ! (λ l1. alloc1 ! (λ l2. alloc1 ! (λ l3. alloc1 ! (λ l4. alloc1 ! (λ l5. alloc1 ! (λ l6. alloc1 ! (λ l7. alloc1 ! (λ l8. alloc1 ! (λ l9. alloc0 ! $ params1 ! $
-        pass1 ! (init ! 16 refl (tt, tt)) $ pass1 ! (init ! 14 refl (tt, (tt, (record { fits = g₁ .0 .1 .0 }, tt)))) $ pass1 ! (init ! 12 refl (tt, (tt, (record { fits = g₂ .0 .1 .0 }, tt)))) $
-        pass1 ! (init ! 10 refl (tt, tt)) $ pass1 ! (init ! 8 refl (tt, tt)) $ pass0 ! $
-        move ! (20 ∷ 21 ∷ []) $ looks ! tt T.the-row (Is T.the-row) (shows 𝓤 H A T.the-row) (LL.vals T.the-type T′.the-laws) (LL.tells T.the-type T′.the-laws) ((LL.copy T.the-type T′.the-copy) 𝓤 H A W) h b o (λ q′ vs.
-        spelt ! T.the-row (Is T.the-row) (shows 𝓤 H A T.the-row) (LL.vals T.the-type T′.the-laws) (LL.tells T.the-type T′.the-laws) q′ h vs b o $
-        move ! (1 ∷ []) $ peeks ! T.the-row (Is T.the-row) (shows 𝓤 H A T.the-row) h (mach ∷ []) (λ was. move ! (1 ∷ 0 ∷ []) $
+        pass1 ! (init ! (p 0 1) refl (tt, tt)) $
+        pass1 ! (init ! (p 0 2) refl (tt, (tt, (record { fits = g₁ .0 .1 .0 }, tt)))) $
+        pass1 ! (init ! (p 0 3) refl (tt, (tt, (record { fits = g₂ .0 .1 .0 }, tt)))) $
+        pass1 ! (init ! (p 0 4) refl (tt, tt)) $
+        pass1 ! (init ! (p 0 5) refl (tt, tt)) $ pass0 ! $
+        move ! (20 ∷ 21 ∷ []) $ looked ! tt h b o (λ q′ was.
         -- [a share of the struct's cell; what it owns; what shuts it; the borrow; _9; …; room for _0; …; what the four others own; their tokens]
-        assigns ! (of-opd ! (load ! (from ! (hop ! (look ! 20 refl) (stop !))) (look-raw ! 0 refl))) (from ! (stop !)) (init ! 8 refl (LL.lawful T.the-type T′.the-laws 𝓤 H A W .typed h _ was .0)) $
-        move ! (1 ∷ []) $ use1 W (‵ (T.the-row .own h (mach ∷ [])) ⊛ ‵ (T.the-row .own h (mach ∷ []))) (LL.copy T.the-type T′.the-copy 𝓤 H A W .twice h (mach ∷ [])) $ split ! $
-        move ! (2 ∷ 0 ∷ 3 ∷ []) $ shuts ! tt T.the-row q′ h (mach ∷ []) b o $
+        assigns ! (of-opd ! (load ! (from ! (hop ! (look ! (p 4 1) refl) (stop !))) (look-raw ! 0 refl))) (from ! (stop !)) (init ! (p 4 7) refl (typed 𝓤 H A W h _ was .0)) $
+        shut-copied ! tt q′ h b o $
         -- [the token; what the copy owns; the borrow; _9; …; room for _0; …; what the four others own; their tokens]
-        assigns ! (addr ! (from ! (hop ! (look ! 13 refl) (stop !)))) (from ! (stop !)) (init ! 5 refl (tt, tt)) $
-        assigns ! (addr ! (from ! (hop ! (look ! 11 refl) (stop !)))) (from ! (stop !)) (init ! 3 refl (tt, tt)) $
+        assigns ! (addr ! (from ! (hop ! (look ! (p 3 4) refl) (stop !)))) (from ! (stop !)) (init ! (p 3 8) refl (tt, tt)) $
+        assigns ! (addr ! (from ! (hop ! (look ! (p 3 5) refl) (stop !)))) (from ! (stop !)) (init ! (p 3 9) refl (tt, tt)) $
         move ! (24 ∷ 1 ∷ 23 ∷ []) $ use3 W (raw (Callee 𝓤 H A at-mem run .pre to-callee)) (goes good) $
-        calls-at ! fm (Callee 𝓤 H A at-mem run) known to-callee (and-then ! (load ! (from ! (stop !)) (look ! 7 refl)) (and-then ! (load ! (from ! (stop !)) (look ! 17 refl)) (and-then ! (load ! (from ! (stop !)) (look ! 15 refl)) (and-then ! (load ! (from ! (stop !)) (look ! 5 refl)) (and-then ! (load ! (from ! (stop !)) (look ! 3 refl)) (no-more !)))))) (λ v.
-        use1 W (later (some (λ (r : Unit {0}). (raw Alive ⊛ ‵ (unit .own r (v ∷ []))) ⊛ raw (ensured 𝓤 H A callee.ended (callee.clauses 𝓤 H A at-mem run) κs args tt r)))) (id⊢ 𝓤 _) $ await ! tt $ pick ! (λ r.
-        split ! $ move ! (1 ∷ []) $ use1 W (some (λ (ws : Lasts callee.ended κs args). ‵ (lasts callee.ended κs args ws) ⊛ raw (fact 𝓤 (Ensured ws)))) (id⊢ 𝓤 _) $ pick ! (λ ws.
-        split ! $ move ! (1 ∷ []) $ heard ! (Ensured ws) (λ e.
-        fsplit ! $ drop ! $ fsplit ! $ drop ! $ fsplit ! $ drop ! $
+        calls-at ! fm (Callee 𝓤 H A at-mem run) known to-callee
+        (and-then ! (held ! (p 3 7) refl) (and-then ! (held ! (p 3 2) refl) (and-then ! (held ! (p 3 3) refl) (and-then ! (held ! (p 3 8) refl) (and-then ! (held ! (p 3 9) refl) (no-more !)))))) (λ v.
+        use1 W (later (some (λ (r : Unit {0}). (raw Alive ⊛ ‵ (unit .own r (v ∷ []))) ⊛ raw (ensured 𝓤 H A callee.ended (callee.clauses 𝓤 H A at-mem run) κs args tt r)))) (id⊢ 𝓤 _) $
+        await ! tt $ pick ! (λ r. split ! $ move ! (1 ∷ []) $
+        use1 W (some (λ (ws : Lasts callee.ended κs args). ‵ (lasts callee.ended κs args ws) ⊛ raw (fact 𝓤 (Ensured ws)))) (id⊢ 𝓤 _) $
+        pick ! (λ ws. split ! $ move ! (1 ∷ []) $ heard ! (Ensured ws) (λ e. fsplit ! $ drop ! $ fsplit ! $ drop ! $ fsplit ! $ drop ! $
         move ! (1 ∷ []) $ split ! $ move ! (1 ∷ []) $ peeks ! unit (Is unit) (shows 𝓤 H A unit) r (v ∷ []) (λ is. drop ! $
         -- [the four tokens; the last values; the token; the borrow; _9; …; room for _0; …]
-        land ! (from ! (stop !)) (init ! 10 refl (nothing-lawful 𝓤 H A W .typed r _ is .0)) $
-        assigns ! (of-opd ! (unit-lit !)) (from ! (stop !)) (init ! 22 refl (tt, tt)) $
-        returns ! (look ! 22 refl) $ forget ! 4 refl $ forget ! 6 refl $ forget ! 8 refl $ forget ! 10 refl $ forget ! 12 refl $ forget ! 14 refl $ forget ! 16 refl $ forget ! 18 refl $ forget ! 20 refl $ forget ! 22 refl $
-        move ! (22 ∷ 23 ∷ []) $ free1 ! $ move ! (20 ∷ 21 ∷ []) $ free1 ! $ move ! (18 ∷ 19 ∷ []) $ free1 ! $ move ! (16 ∷ 17 ∷ []) $ free1 ! $ move ! (14 ∷ 15 ∷ []) $ free1 ! $ move ! (12 ∷ 13 ∷ []) $ free1 ! $ move ! (10 ∷ 11 ∷ []) $ free1 ! $ move ! (8 ∷ 9 ∷ []) $ free1 ! $ move ! (6 ∷ 7 ∷ []) $ free1 ! $ move ! (4 ∷ 5 ∷ []) $ free1 ! $ free0 ! $
-        keep ! (2 ∷ 0 ∷ 1 ∷ []) $ by ! (exits ws e))))))))))))))))))
+        land ! (from ! (stop !)) (init ! (p 4 6) refl (nothing-lawful 𝓤 H A W .typed r _ is .0)) $
+        assigns ! (of-opd ! (unit-lit !)) (from ! (stop !)) (init ! (p 4 0) refl (tt, tt)) $
+        returns ! (look ! (p 4 0) refl) $ move ! (in-order 10 4) $
+        gone ! $ gone ! $ gone ! $ gone ! $ gone ! $ gone ! $ gone ! $ gone ! $ gone ! $ gone ! $ free0 ! $ keep ! (2 ∷ 0 ∷ 1 ∷ []) $ by ! (exits ws e)))))))))))))))))
 
 module _ {M : Type 1} (𝓤 : URA M) (H : Heap 𝓤) (A : Atoms 𝓤) (W : Given 𝓤 H A) (at-mem : Memory → SProp 𝓤) (run : Routine → Fun 𝓤) where
   walks : (C : Calls 𝓤 H) (Λ : Loops 𝓤 H) → FmC 𝓤 H (W .laws) C → Triple 𝓤 (C #callee) (Callee 𝓤 H A at-mem run) → Walks 𝓤 H A f.ended stayed (WpFn 𝓤 H C Λ code.function) (f.clauses 𝓤 H A at-mem run)
-  walks C Λ fm known = walked 𝓤 H A f.ended stayed (f.clauses 𝓤 H A at-mem run) (WpFn 𝓤 H C Λ code.function)
-      (λ κs. (ptr-vals, (slice-vals, (slice-vals, (ptr-vals, (ptr-vals, tt))))))
-      (λ κs. (shr-tells (named 0) (κs .0) T.the-row, (shr-slice-tells (named 1) (κs .1 .0) u8, (shr-slice-tells (named 2) (κs .1 .1 .0) u8, (mut-tells (named 3) (κs .1 .1 .1 .0) usize, (mut-tells (named 4) (κs .1 .1 .1 .1 .0) usize, tt))))))
-      (λ κs qs bounds a g are. needs 𝓤 (Needed 𝓤 H A W at-mem run (κs .0) (κs .1) (qs .0) (qs .1) (a .0 .ptr .0) (a .0 .ptr .1) (a .0 .name) (a .0 .now) (a .1)) _ (λ good.
+  walks C Λ fm known =
+      walked 𝓤 H A f.ended stayed (f.clauses 𝓤 H A at-mem run) (WpFn 𝓤 H C Λ code.function) (λ κs. (ptr-vals, (slice-vals, (slice-vals, (ptr-vals, (ptr-vals, tt))))))
+      (λ κs. (
+        shr-tells (named 0) (κs .0) struct,
+        (
+          shr-slice-tells (named 1) (κs .1 .0) u8,
+          (
+            shr-slice-tells (named 2) (κs .1 .1 .0) u8,
+            (mut-tells (named 3) (κs .1 .1 .1 .0) usize, (mut-tells (named 4) (κs .1 .1 .1 .1 .0) usize, tt)),
+          ),
+        ),
+      ))
+      (λ κs qs bounds a g are. needs 𝓤 (Good (a .0 .now)) _ (λ good.
       walk 𝓤 H A W at-mem run (κs .0) (κs .1) (qs .0) (qs .1) (a .0 .ptr .0) (a .0 .ptr .1) (a .0 .name) (a .0 .now) (a .1) C Λ fm known good (are .1 .0) (are .1 .1 .0)))
 
   all-go : AllGo 𝓤 H A W 5 (f.signature .params) (f.ended .kept) stayed
   all-go = (
     goes-dropped 𝓤 H A W 5 (shrRefTo (0 ∷ []) tt Struct) yes (λ κs x f. refl),
-    (goes-dropped 𝓤 H A W 5 (shrSliceOf (1 ∷ []) tt Byte) yes (λ κs x f. refl),
-    (goes-dropped 𝓤 H A W 5 (shrSliceOf (2 ∷ []) tt Byte) yes (λ κs x f. refl),
-    (goes-gave-ref 𝓤 H A W 5 3 tt Number, (goes-gave-ref 𝓤 H A W 5 4 tt Number, tt)))),
+    (
+      goes-dropped 𝓤 H A W 5 (shrSliceOf (1 ∷ []) tt Byte) yes (λ κs x f. refl),
+      (
+        goes-dropped 𝓤 H A W 5 (shrSliceOf (2 ∷ []) tt Byte) yes (λ κs x f. refl),
+        (goes-gave-ref 𝓤 H A W 5 3 tt Number, (goes-gave-ref 𝓤 H A W 5 4 tt Number, tt)),
+      ),
+    ),
   )
 
-meets : {M : Type 1} (𝓤 : URA M) (H : Heap 𝓤) (A : Atoms 𝓤) → Given 𝓤 H A → (at-mem : Memory → SProp 𝓤) (run : Routine → Fun 𝓤) (𝓣 : Tables 𝓤 H) → Triple 𝓤 (𝓣 .C #callee) (Callee 𝓤 H A at-mem run)
-    → Meets 𝓤 H A f.signature (WpFn 𝓤 H (𝓣 .C) (𝓣 .Λ) code.function) (f.spec 𝓤 H A at-mem run)
-meets 𝓤 H A W at-mem run 𝓣 known =
-    walk-meets 𝓤 H A f.ended stayed W (all-go 𝓤 H A W at-mem run) (f.clauses 𝓤 H A at-mem run)
-    (WpFn 𝓤 H (𝓣 .C) (𝓣 .Λ) code.function) (WpFn-mono 𝓤 H (W .laws) 𝓣 code.function) (walks 𝓤 H A W at-mem run (𝓣 .C) (𝓣 .Λ) (fmOf 𝓤 H (W .laws) 𝓣) known)
-
 pub trunhoac-read-spec : {M : Type 1} → stated.statement M
-unfolding code.routine tablesOf
+unfolding code.routine
 trunhoac-read-spec 𝓤 H 𝓜 𝓖 𝓡 =
-    entered 𝓤 H (tripleOf 𝓤 H (𝓖 .A) f.signature (f.spec 𝓤 H (𝓖 .A) (𝓜 .mem) (𝓡 .run)))
-    (tables 𝓤 H 𝓜 𝓡 code.env .C) (tables 𝓤 H 𝓜 𝓡 code.env .Λ) #f code.function (code.unfolded 𝓤 H 𝓜 𝓡)
-    (meets 𝓤 H (𝓖 .A) (givenOf 𝓤 H 𝓜 𝓖) (𝓜 .mem) (𝓡 .run) (tablesOf 𝓤 H 𝓜 (tables 𝓤 H 𝓜 𝓡 code.env))
-    (cited 𝓤 H (Callee 𝓤 H (𝓖 .A) (𝓜 .mem) (𝓡 .run)) 𝓜 𝓡 code.env #callee callee-def.routine code.calls-host·find-part (callee-thm.met 𝓤 H 𝓜 𝓖 𝓡)))
+    met 𝓤 H 𝓜 𝓖 𝓡 f.ended (f.clauses 𝓤 H (𝓖 .A) (𝓜 .mem) (𝓡 .run)) stayed code.env #f code.function (Callee 𝓤 H (𝓖 .A) (𝓜 .mem) (𝓡 .run)) #callee callee-def.routine
+    (code.unfolded 𝓤 H 𝓜 𝓡) code.calls-host·find-part (callee-thm.met 𝓤 H 𝓜 𝓖 𝓡) (all-go 𝓤 H (𝓖 .A) (givenOf 𝓤 H 𝓜 𝓖) (𝓜 .mem) (𝓡 .run))
+    (walks 𝓤 H (𝓖 .A) (givenOf 𝓤 H 𝓜 𝓖) (𝓜 .mem) (𝓡 .run) (tables 𝓤 H 𝓜 𝓡 code.env .C) (tables 𝓤 H 𝓜 𝓡 code.env .Λ))
