@@ -1,0 +1,149 @@
+//! The night of samples/night/commands.txt as a host in Rust. Its argument names the file with the shift chart.
+
+use std::{env, error::Error, fs};
+use trunhoac::{Actions, DrainEnd, Handle, Kernel, Refusal, Released, Step, Ticked};
+
+#[path = "../../include/trunhoac.rs"]
+#[allow(dead_code)] // a night does not use every command
+mod trunhoac;
+
+const VENTILATOR: u8 = 9;
+const INFUSION_PUMP: u8 = 5;
+const SHIFT_CHART: u8 = 0;
+const REMINDER: u8 = 0;
+const FAULT: u8 = 6;
+const SIGN: u8 = 8;
+const READING: u8 = 9;
+
+fn main() -> Result<(), Box<dyn Error>> {
+    let path = env::args_os().nth(1).ok_or("usage: night CHART")?;
+    let mut kernel = Kernel::fresh();
+    begin(&mut kernel, &fs::read(path)?)?;
+    let note = send_notes(&mut kernel)?;
+    take_step(&mut kernel)?;
+    take_step(&mut kernel)?;
+    remind(&mut kernel)?;
+    work_off(&mut kernel)?;
+    read_back(&mut kernel, note)
+}
+
+fn begin(kernel: &mut Kernel, chart: &[u8]) -> Result<(), Refusal> {
+    let states = kernel.load(SHIFT_CHART, chart)?;
+    println!("The shift chart is loaded: {}", counted(states, "state"));
+    for (object, depth) in [(VENTILATOR, 4), (INFUSION_PUMP, 1)] {
+        let start = kernel.start(object, SHIFT_CHART, depth)?;
+        println!("{}: {}", name(start.object), carry_out(&start.actions));
+    }
+    Ok(())
+}
+
+fn send_notes(kernel: &mut Kernel) -> Result<Handle, Box<dyn Error>> {
+    kernel.subscribe(VENTILATOR, FAULT)?;
+    kernel.subscribe(INFUSION_PUMP, FAULT)?;
+    let note = kernel.new(FAULT, &[7, 8, 9])?;
+    let receivers = counted(kernel.publish(note)?.receivers, "receiver");
+    println!("A note of three bytes, signal {FAULT}, is published: {receivers}");
+    let second = kernel.new(READING, &[])?;
+    let refusal = refused(kernel.post(second, INFUSION_PUMP, 0))?;
+    println!("A second note for the infusion pump is refused: {refusal}");
+    let queued = kernel.post(second, VENTILATOR, 0)?;
+    println!("The ventilator takes it: {queued} queued");
+    let holds = counted(kernel.hold(note)?, "hold");
+    println!("The technician keeps the first note: {holds}");
+    Ok(note)
+}
+
+fn take_step(kernel: &mut Kernel) -> Result<(), Refusal> {
+    show(&kernel.next()?);
+    let fate = if kernel.end()? { "is freed" } else { "stays" };
+    println!("The event {fate}");
+    Ok(())
+}
+
+fn remind(kernel: &mut Kernel) -> Result<(), Refusal> {
+    kernel.arm(REMINDER, VENTILATOR, SIGN, 2, 0)?;
+    println!("A reminder is armed");
+    for _ in 0..2 {
+        let Ticked { fired, late } = kernel.tick()?;
+        println!("Tick: {fired} fired, {late} late");
+    }
+    Ok(())
+}
+
+fn work_off(kernel: &mut Kernel) -> Result<(), Box<dyn Error>> {
+    let drained = kernel.drain(10)?;
+    let end = match drained.end {
+        DrainEnd::Spent => "more is queued",
+        DrainEnd::Empty => "nothing is queued",
+        DrainEnd::Unsound => "a row is not sound",
+    };
+    println!("Drained in {}, and {end}", counted(drained.steps, "step"));
+    drained.log().for_each(|step| show(&step));
+    println!("Next: {}", refused(kernel.next())?);
+    Ok(())
+}
+
+fn read_back(kernel: &mut Kernel, note: Handle) -> Result<(), Box<dyn Error>> {
+    let payload: Vec<String> = kernel.read(note)?.iter().map(u8::to_string).collect();
+    println!("The note that was kept: {}", payload.join(" "));
+    let Released { holds, freed } = kernel.release(note)?;
+    let fate = if freed { "is freed" } else { "stays" };
+    println!("Released: {}, the event {fate}", counted(holds, "hold"));
+    println!("Read again: {}", refused(kernel.read(note))?);
+    Ok(())
+}
+
+/// The refusal that the night counts on; an answer in its place is an error.
+fn refused<T>(answer: Result<T, Refusal>) -> Result<Refusal, &'static str> {
+    answer.err().ok_or("a refusal was expected")
+}
+
+fn show(step: &Step) {
+    let actions = carry_out(&step.actions);
+    println!("{}, signal {}: {actions}", name(step.object), step.signal);
+}
+
+/// A real host would do what this one only names.
+fn carry_out(actions: &Actions) -> String {
+    let names: Vec<&str> = actions.iter().map(|&action| action_name(action)).collect();
+    names.join("; ")
+}
+
+fn counted(count: u8, what: &str) -> String {
+    let plural = if count == 1 { "" } else { "s" };
+    format!("{count} {what}{plural}")
+}
+
+fn name(object: u8) -> &'static str {
+    match object {
+        VENTILATOR => "ventilator",
+        INFUSION_PUMP => "infusion pump",
+        _ => "unknown object",
+    }
+}
+
+fn action_name(action: u8) -> &'static str {
+    match action {
+        10 => "switch on",
+        11 => "open the shift log",
+        12 => "close the shift log",
+        13 => "show the ward",
+        15 => "begin the shift again",
+        21 => "light the ready lamp",
+        22 => "put out the ready lamp",
+        26 => "take up the fault",
+        31 => "open a note",
+        32 => "save the note",
+        33 => "begin a line",
+        37 => "file the note",
+        38 => "read the note back",
+        40 => "strike the line out",
+        41 => "show the keyboard",
+        42 => "hide the keyboard",
+        49 => "write down a reading",
+        51 => "ask for a signature",
+        52 => "put the pen away",
+        59 => "release the device",
+        _ => "unknown action",
+    }
+}

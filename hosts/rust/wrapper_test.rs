@@ -1,0 +1,197 @@
+//! What the sample night does not reach of the wrapper. The values expected are document 01's.
+
+use trunhoac::Refusal::{self, *};
+use trunhoac::{chart_check, chart_flatten, DrainEnd, Event, Kernel, Outcome, Released};
+use trunhoac::{Step, Ticked, REPLY_BYTES, SLOT_BYTES};
+
+#[path = "../../include/trunhoac.rs"]
+#[allow(dead_code)] // the night uses the rest
+mod trunhoac;
+
+const SHIFT_CHART: &[u8] = include_bytes!("../../crates/replay/data/chart0");
+
+/// Objects 9 and 5 run the shift chart, each with so many places for mail.
+fn started(depth: u8) -> Kernel {
+    let mut kernel = Kernel::fresh();
+    assert_eq!(kernel.load(0, SHIFT_CHART), Ok(5));
+    for object in [9, 5] {
+        let start = kernel.start(object, 0, depth).unwrap();
+        assert_eq!((start.object, start.outcome), (object, Outcome::Transition));
+        assert_eq!(*start.actions, [10, 11, 13, 21]);
+    }
+    kernel
+}
+
+/// The shift chart with a byte changed.
+fn changed(place: usize, byte: u8) -> Vec<u8> {
+    let mut chart = SHIFT_CHART.to_vec();
+    chart[place] = byte;
+    chart
+}
+
+#[test]
+fn each_refusal_has_the_documents_name() {
+    let names = "FORM AREA RANGE BUSY NOSTEP IDLE STALE ABSENT TAKEN FULL DRY HOLDS INUSE";
+    let mut reply = [0; REPLY_BYTES];
+    assert_eq!(Refusal::in_reply(&reply), None);
+    for (number, name) in (1..).zip(names.split(' ').chain(["CHART, class 4", "TABLE"])) {
+        (reply[0], reply[4]) = (number, 4);
+        assert_eq!(Refusal::in_reply(&reply).unwrap().to_string(), name);
+    }
+}
+
+#[test]
+fn the_kernel_refuses() {
+    let mut kernel = started(1);
+    assert_eq!(kernel.start(17, 0, 1), Err(Range));
+    assert_eq!(kernel.start(3, 1, 1), Err(Absent));
+    assert_eq!(kernel.load(0, SHIFT_CHART), Err(Taken));
+    assert_eq!(kernel.end(), Err(NoStep));
+    assert_eq!(kernel.next(), Err(Idle));
+    let event = kernel.new(6, &[]).unwrap();
+    assert_eq!(kernel.post(event, 9, 1), Err(Full));
+    assert_eq!(kernel.post(event, 9, 0), Ok(1));
+    assert_eq!(kernel.drop(event), Err(InUse));
+    assert!(kernel.next().is_ok());
+    assert_eq!(kernel.drain(1), Err(Busy));
+    for _ in 1..32 {
+        assert!(kernel.new(4, &[0; 16]).is_ok());
+    }
+    assert_eq!(kernel.new(4, &[0; 16]), Err(Dry));
+}
+
+#[test]
+fn payloads_choose_the_pool() {
+    let mut kernel = Kernel::fresh();
+    for (size, block) in [(16, 0), (17, 32), (20, 33), (33, 48), (64, 49)] {
+        let payload: Vec<u8> = (1..=size).collect();
+        let event = kernel.new(31, &payload).unwrap();
+        assert_eq!((event.block(), event.generation()), (block, 0));
+        assert_eq!(kernel.read(event), Ok(&payload[..]));
+    }
+    for size in [65, 255, 256, 300] {
+        assert_eq!(kernel.new(31, &vec![1; size]), Err(Range));
+    }
+}
+
+#[test]
+fn holds_are_counted() {
+    let mut kernel = Kernel::fresh();
+    let event = kernel.new(6, &[]).unwrap();
+    assert_eq!(kernel.release(event), Err(Holds));
+    for holds in 1..=15 {
+        assert_eq!(kernel.hold(event), Ok(holds));
+    }
+    assert_eq!(kernel.hold(event), Err(Holds));
+    for holds in (0..15).rev() {
+        let freed = holds == 0;
+        assert_eq!(kernel.release(event), Ok(Released { holds, freed }));
+    }
+    let event = kernel.new(6, &[]).unwrap();
+    assert_eq!((event.block(), event.generation()), (0, 1));
+    assert_eq!(kernel.drop(event), Ok(()));
+    assert_eq!(kernel.drop(event), Err(Stale));
+}
+
+#[test]
+fn publishing_follows_the_subscriptions() {
+    let mut kernel = started(1);
+    assert_eq!(kernel.subscribe(9, 6), Ok(true));
+    assert_eq!(kernel.subscribe(9, 6), Ok(false));
+    for expected in [(1, false), (0, true)] {
+        let event = kernel.new(6, &[]).unwrap();
+        let published = kernel.publish(event).unwrap();
+        assert_eq!((published.receivers, published.freed), expected);
+        assert_eq!(kernel.unsubscribe(9, 6), Ok(!published.freed));
+    }
+}
+
+#[test]
+fn steps_tell_what_the_chart_makes_of_a_signal() {
+    let mut kernel = started(3);
+    let [fault, reading] = [6, 9].map(|signal| kernel.new(signal, &[]).unwrap());
+    assert_eq!(kernel.post(fault, 9, 0), Ok(1));
+    assert_eq!(kernel.post(reading, 9, 0), Ok(2));
+    assert_eq!(kernel.post_front(reading, 9), Ok(3));
+    assert_eq!(kernel.drain(0).unwrap().end, DrainEnd::Spent);
+    let first = kernel.next().unwrap();
+    assert_eq!(
+        (first.outcome, first.event),
+        (Outcome::Ignored, Event::Block(reading))
+    );
+    assert_eq!((first.actions.len(), kernel.end()), (0, Ok(false)));
+    let drained = kernel.drain(255).unwrap();
+    assert_eq!((drained.steps, drained.end), (2, DrainEnd::Empty));
+    let steps: Vec<Step> = drained.log().collect();
+    assert_eq!((steps[0].object, steps[0].signal), (9, 6));
+    assert_eq!(
+        (steps[0].outcome, steps[0].event),
+        (Outcome::Transition, Event::Block(fault))
+    );
+    assert_eq!(*steps[0].actions, [22, 26, 31, 41]);
+    assert_eq!((steps[1].signal, steps[1].outcome), (9, Outcome::Internal));
+    assert_eq!((&*steps[1].actions, steps.len()), (&[49][..], 2));
+}
+
+#[test]
+fn timers_fire_by_ascending_number() {
+    let mut kernel = started(1);
+    assert_eq!(kernel.arm(15, 9, 8, 0, 1), Err(Range));
+    assert_eq!(kernel.arm(15, 9, 8, 1, 2), Ok(()));
+    assert_eq!(kernel.arm(15, 9, 8, 1, 2), Err(Taken));
+    assert_eq!(kernel.arm(0, 9, 6, 1, 0), Ok(()));
+    assert_eq!(kernel.tick(), Ok(Ticked { fired: 1, late: 1 }));
+    assert_eq!((kernel.disarm(0), kernel.disarm(15)), (Ok(false), Ok(true)));
+    let step = kernel.next().unwrap();
+    assert_eq!((step.signal, step.event), (6, Event::Timer(0)));
+    assert_eq!(kernel.arm(15, 9, 8, 258, 0), Ok(()));
+    for fired in (1..=258).map(|tick| u8::from(tick == 258)) {
+        assert_eq!(kernel.tick(), Ok(Ticked { fired, late: 0 }));
+    }
+    assert_eq!(kernel.end(), Ok(false));
+    assert_eq!(kernel.next().unwrap().event, Event::Timer(15));
+}
+
+#[test]
+fn charts_are_refused_by_class() {
+    let bad = [vec![], changed(0, 9), changed(9, 1), changed(50, 3)];
+    for (class, chart) in (1..).zip(bad) {
+        assert_eq!(chart_check(&chart), Err(Chart(class)));
+        assert_eq!(chart_flatten(&chart, &mut []), Err(Chart(class)));
+        assert_eq!(Kernel::fresh().load(0, &chart), Err(Chart(class)));
+    }
+    let mut slot = vec![7; SLOT_BYTES + 1];
+    assert_eq!(chart_check(SHIFT_CHART), Ok(()));
+    assert_eq!(chart_flatten(SHIFT_CHART, &mut slot), Err(Chart(5)));
+    assert_eq!(slot, vec![7; SLOT_BYTES + 1]);
+    assert_eq!(chart_flatten(SHIFT_CHART, &mut slot[..SLOT_BYTES]), Ok(()));
+    assert_eq!(slot[2136..2142], [5, 2, 3, 42, 38, 51]);
+    assert_eq!(slot[2142..2160], [0; 18]);
+    assert_eq!(slot[SLOT_BYTES], 7);
+}
+
+#[test]
+fn no_row_is_unsound() {
+    let mut kernel = Kernel::fresh();
+    assert_eq!(kernel.load(0, &changed(50, 3)), Err(Chart(4)));
+    assert_eq!(kernel.start(9, 0, 1), Err(Absent));
+    let mut kernel = started(1);
+    for signal in (4..=31).cycle().take(280) {
+        let event = kernel.new(signal, &[]).unwrap();
+        assert_eq!(kernel.post(event, 9, 0), Ok(1));
+        assert_eq!(kernel.drain(2).unwrap().end, DrainEnd::Empty);
+    }
+}
+
+#[test]
+fn kernels_stand_side_by_side() {
+    let (mut one, mut other) = (Kernel::fresh(), Kernel::fresh());
+    let event = one.new(6, &[1, 2]).unwrap();
+    assert_eq!(other.read(event), Err(Stale));
+    assert_eq!(other.new(7, &[3]), Ok(event));
+    let mut copy = one.clone();
+    assert_eq!(one.drop(event), Ok(()));
+    assert_eq!(one.read(event), Err(Stale));
+    assert_eq!(other.read(event), Ok(&[3][..]));
+    assert_eq!(copy.read(event), Ok(&[1, 2][..]));
+}
