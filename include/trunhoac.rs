@@ -529,7 +529,7 @@ impl Kernel {
             1 => DrainEnd::Empty,
             _ => DrainEnd::Unsound,
         };
-        let lines = &self.parts.log[..usize::from(steps)];
+        let lines = &self.parts.log[..usize::from(steps)]; // a u8 is never above LOG_LINES
         Ok(Drained { steps, end, lines })
     }
 
