@@ -3,7 +3,7 @@
  *
  * The expected bytes are written by hand from document 01.
  */
-#include "trunhoac_chart.h"
+#include "trunhoac.h"
 
 #include <stdbool.h>
 #include <stdio.h>

@@ -168,10 +168,10 @@ static inline uint8_t trunhoac_signal(const uint8_t *reply)
     return reply[TRUNHOAC_AT_OUTCOME] % 32;
 }
 
-/* ---- Records: each function fills one with a command; p is an object's priority ---- */
+/* ---- Records: each function fills one with a command, and returns it; p is an object's priority ---- */
 
-static inline void trunhoac_fill(uint8_t *record, uint8_t command,
-                                 uint8_t first, uint8_t second, uint8_t third, uint8_t fourth)
+static inline const uint8_t *trunhoac_fill(uint8_t *record, uint8_t command,
+                                           uint8_t first, uint8_t second, uint8_t third, uint8_t fourth)
 {
     memset(record, 0, TRUNHOAC_RECORD_BYTES);
     record[0] = command;
@@ -179,103 +179,106 @@ static inline void trunhoac_fill(uint8_t *record, uint8_t command,
     record[2] = second;
     record[3] = third;
     record[4] = fourth;
+    return record;
 }
 
-static inline void trunhoac_fill_load(uint8_t *record, uint8_t slot)
+static inline const uint8_t *trunhoac_fill_load(uint8_t *record, uint8_t slot)
 {
-    trunhoac_fill(record, TRUNHOAC_LOAD, slot, 0, 0, 0);
+    return trunhoac_fill(record, TRUNHOAC_LOAD, slot, 0, 0, 0);
 }
 
-static inline void trunhoac_fill_start(uint8_t *record, uint8_t p, uint8_t slot, uint8_t depth)
+static inline const uint8_t *trunhoac_fill_start(uint8_t *record, uint8_t p, uint8_t slot, uint8_t depth)
 {
-    trunhoac_fill(record, TRUNHOAC_START, p, slot, depth, 0);
+    return trunhoac_fill(record, TRUNHOAC_START, p, slot, depth, 0);
 }
 
 /* A size above 64 is refused by the kernel; the payload is then not read. */
-static inline void trunhoac_fill_new(uint8_t *record, uint8_t signal, const uint8_t *payload, uint8_t size)
+static inline const uint8_t *trunhoac_fill_new(uint8_t *record, uint8_t signal, const uint8_t *payload, uint8_t size)
 {
     trunhoac_fill(record, TRUNHOAC_NEW, signal, size, 0, 0);
     if (size > 0 && size <= TRUNHOAC_MOST_PAYLOAD_BYTES)
         memcpy(record + 8, payload, size);
+    return record;
 }
 
-static inline void trunhoac_fill_post(uint8_t *record, struct trunhoac_handle event, uint8_t p, uint8_t margin)
+static inline const uint8_t *trunhoac_fill_post(uint8_t *record, struct trunhoac_handle event, uint8_t p, uint8_t margin)
 {
-    trunhoac_fill(record, TRUNHOAC_POST, event.block, event.generation, p, margin);
+    return trunhoac_fill(record, TRUNHOAC_POST, event.block, event.generation, p, margin);
 }
 
-static inline void trunhoac_fill_postfront(uint8_t *record, struct trunhoac_handle event, uint8_t p)
+static inline const uint8_t *trunhoac_fill_postfront(uint8_t *record, struct trunhoac_handle event, uint8_t p)
 {
-    trunhoac_fill(record, TRUNHOAC_POSTFRONT, event.block, event.generation, p, 0);
+    return trunhoac_fill(record, TRUNHOAC_POSTFRONT, event.block, event.generation, p, 0);
 }
 
-static inline void trunhoac_fill_publish(uint8_t *record, struct trunhoac_handle event)
+static inline const uint8_t *trunhoac_fill_publish(uint8_t *record, struct trunhoac_handle event)
 {
-    trunhoac_fill(record, TRUNHOAC_PUBLISH, event.block, event.generation, 0, 0);
+    return trunhoac_fill(record, TRUNHOAC_PUBLISH, event.block, event.generation, 0, 0);
 }
 
-static inline void trunhoac_fill_subscribe(uint8_t *record, uint8_t p, uint8_t signal)
+static inline const uint8_t *trunhoac_fill_subscribe(uint8_t *record, uint8_t p, uint8_t signal)
 {
-    trunhoac_fill(record, TRUNHOAC_SUBSCRIBE, p, signal, 0, 0);
+    return trunhoac_fill(record, TRUNHOAC_SUBSCRIBE, p, signal, 0, 0);
 }
 
-static inline void trunhoac_fill_unsubscribe(uint8_t *record, uint8_t p, uint8_t signal)
+static inline const uint8_t *trunhoac_fill_unsubscribe(uint8_t *record, uint8_t p, uint8_t signal)
 {
-    trunhoac_fill(record, TRUNHOAC_UNSUBSCRIBE, p, signal, 0, 0);
+    return trunhoac_fill(record, TRUNHOAC_UNSUBSCRIBE, p, signal, 0, 0);
 }
 
-static inline void trunhoac_fill_hold(uint8_t *record, struct trunhoac_handle event)
+static inline const uint8_t *trunhoac_fill_hold(uint8_t *record, struct trunhoac_handle event)
 {
-    trunhoac_fill(record, TRUNHOAC_HOLD, event.block, event.generation, 0, 0);
+    return trunhoac_fill(record, TRUNHOAC_HOLD, event.block, event.generation, 0, 0);
 }
 
-static inline void trunhoac_fill_release(uint8_t *record, struct trunhoac_handle event)
+static inline const uint8_t *trunhoac_fill_release(uint8_t *record, struct trunhoac_handle event)
 {
-    trunhoac_fill(record, TRUNHOAC_RELEASE, event.block, event.generation, 0, 0);
+    return trunhoac_fill(record, TRUNHOAC_RELEASE, event.block, event.generation, 0, 0);
 }
 
-static inline void trunhoac_fill_drop(uint8_t *record, struct trunhoac_handle event)
+static inline const uint8_t *trunhoac_fill_drop(uint8_t *record, struct trunhoac_handle event)
 {
-    trunhoac_fill(record, TRUNHOAC_DROP, event.block, event.generation, 0, 0);
+    return trunhoac_fill(record, TRUNHOAC_DROP, event.block, event.generation, 0, 0);
 }
 
-static inline void trunhoac_fill_next(uint8_t *record)
+static inline const uint8_t *trunhoac_fill_next(uint8_t *record)
 {
-    trunhoac_fill(record, TRUNHOAC_NEXT, 0, 0, 0, 0);
+    return trunhoac_fill(record, TRUNHOAC_NEXT, 0, 0, 0, 0);
 }
 
-static inline void trunhoac_fill_end(uint8_t *record)
+static inline const uint8_t *trunhoac_fill_end(uint8_t *record)
 {
-    trunhoac_fill(record, TRUNHOAC_END, 0, 0, 0, 0);
+    return trunhoac_fill(record, TRUNHOAC_END, 0, 0, 0, 0);
 }
 
-static inline void trunhoac_fill_arm(uint8_t *record, uint8_t timer, uint8_t p, uint8_t signal,
-                                     uint16_t ticks, uint16_t interval)
+static inline const uint8_t *trunhoac_fill_arm(uint8_t *record, uint8_t timer, uint8_t p, uint8_t signal,
+                                               uint16_t ticks, uint16_t interval)
 {
     trunhoac_fill(record, TRUNHOAC_ARM, timer, p, signal, (uint8_t)ticks);
     record[5] = (uint8_t)(ticks >> 8);
     record[6] = (uint8_t)interval;
     record[7] = (uint8_t)(interval >> 8);
+    return record;
 }
 
-static inline void trunhoac_fill_disarm(uint8_t *record, uint8_t timer)
+static inline const uint8_t *trunhoac_fill_disarm(uint8_t *record, uint8_t timer)
 {
-    trunhoac_fill(record, TRUNHOAC_DISARM, timer, 0, 0, 0);
+    return trunhoac_fill(record, TRUNHOAC_DISARM, timer, 0, 0, 0);
 }
 
-static inline void trunhoac_fill_tick(uint8_t *record)
+static inline const uint8_t *trunhoac_fill_tick(uint8_t *record)
 {
-    trunhoac_fill(record, TRUNHOAC_TICK, 0, 0, 0, 0);
+    return trunhoac_fill(record, TRUNHOAC_TICK, 0, 0, 0, 0);
 }
 
-static inline void trunhoac_fill_read(uint8_t *record, struct trunhoac_handle event)
+static inline const uint8_t *trunhoac_fill_read(uint8_t *record, struct trunhoac_handle event)
 {
-    trunhoac_fill(record, TRUNHOAC_READ, event.block, event.generation, 0, 0);
+    return trunhoac_fill(record, TRUNHOAC_READ, event.block, event.generation, 0, 0);
 }
 
-static inline void trunhoac_fill_drain(uint8_t *record, uint8_t budget)
+static inline const uint8_t *trunhoac_fill_drain(uint8_t *record, uint8_t budget)
 {
-    trunhoac_fill(record, TRUNHOAC_DRAIN, budget, 0, 0, 0);
+    return trunhoac_fill(record, TRUNHOAC_DRAIN, budget, 0, 0, 0);
 }
 
 #ifdef __cplusplus
