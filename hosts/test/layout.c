@@ -1,0 +1,172 @@
+/*
+ * The kernel's layout: the struct as crates/state and crates/pool declare it, held against the header and the library.
+ *
+ * Values are looked for at the first and at the last element of each array.
+ */
+#include "test.h"
+
+enum { BLOCKS = 56, OBJECTS = 16, PLACES = 16, SIGNAL_PLACES = 32, SLOTS = 4, TIMERS = 16 };
+
+struct pool {
+    uint8_t gens[BLOCKS];
+    uint16_t counts[BLOCKS]; /* 0 free, 1 without a reference, and one more for each reference */
+};
+
+struct kernel {
+    struct pool pool;
+    uint8_t signals[BLOCKS];
+    uint8_t sizes[BLOCKS];
+    uint8_t holds[BLOCKS];
+    uint16_t places[OBJECTS * PLACES]; /* 1 + b is block b, 64 + 32 t + g timer t with signal g */
+    uint8_t heads[OBJECTS];
+    uint8_t counts[OBJECTS];
+    uint8_t depths[OBJECTS];
+    uint8_t rests[OBJECTS];
+    uint8_t seats[OBJECTS];
+    uint8_t wants[OBJECTS * SIGNAL_PLACES];
+    uint8_t loaded[SLOTS];
+    uint8_t owners[TIMERS];
+    uint8_t alarms[TIMERS];
+    uint16_t counters[TIMERS];
+    uint16_t intervals[TIMERS];
+    uint16_t hand;
+};
+
+_Static_assert(sizeof(struct kernel) == sizeof(struct trunhoac_kernel), "the header gives the kernel its size");
+_Static_assert(_Alignof(struct kernel) == _Alignof(struct trunhoac_kernel), "and its alignment");
+
+/* Two states; signal 6 leads from the first to the second. */
+static const struct chart chart = {
+    .length = 32,
+    .bytes = {3, 1, 0, 0, 0, 0, 0, 0, 1, 0, 0, 0, 0, 0, 0, 0, 1, 0, 0, 0, 0, 0, 0, 0, 2, 1, 6, 1, 2, 0, 0, 0},
+};
+
+static const struct trunhoac_handle first_block = {0, 0};
+static const struct trunhoac_handle last_block = {BLOCKS - 1, 0};
+
+static uint8_t record[TRUNHOAC_RECORD_BYTES];
+static struct kernel k; /* as the library left it */
+
+static void take_kernel(void)
+{
+    memcpy(&k, lent_kernel(), sizeof k);
+}
+
+static void done(const uint8_t *filled)
+{
+    expect(command(filled, TRUNHOAC_RECORD_BYTES, &chart)[0] == TRUNHOAC_DONE, "the command is done");
+    take_kernel();
+}
+
+/* A byte that a fresh start did not write would differ by the fill. */
+static void test_fresh(void)
+{
+    lend_fresh(FILL);
+    take_kernel();
+    lend_fresh(FILL / 2);
+    expect(memcmp(&k, lent_kernel(), sizeof k) == 0, "a fresh start writes every byte");
+}
+
+static void test_blocks(void)
+{
+    static const uint8_t payload[TRUNHOAC_MOST_PAYLOAD_BYTES] = {0};
+
+    lend_fresh(FILL);
+    done(trunhoac_fill_new(record, 4, payload, 16));
+    for (int block = 48; block < BLOCKS; block++)
+        done(trunhoac_fill_new(record, 31, payload, sizeof payload));
+    expect(k.signals[0] == 4 && k.signals[BLOCKS - 1] == 31, "signals");
+    expect(k.sizes[0] == 16 && k.sizes[BLOCKS - 1] == 64, "sizes");
+    expect(k.pool.counts[0] == 1 && k.pool.counts[BLOCKS - 1] == 1, "new blocks");
+
+    done(trunhoac_fill_hold(record, first_block));
+    done(trunhoac_fill_hold(record, last_block));
+    done(trunhoac_fill_hold(record, last_block));
+    expect(k.holds[0] == 1 && k.holds[BLOCKS - 1] == 2, "holds");
+    expect(k.pool.counts[0] == 2 && k.pool.counts[BLOCKS - 1] == 3, "references");
+
+    done(trunhoac_fill_release(record, first_block));
+    done(trunhoac_fill_release(record, last_block));
+    expect(k.pool.gens[0] == 1 && k.pool.gens[BLOCKS - 1] == 0, "generations");
+    expect(k.pool.counts[0] == 0 && k.pool.counts[BLOCKS - 1] == 2, "a block that is free, and one that is not");
+}
+
+/* A fresh kernel with the objects 1 and 16 on the charts of the slots 0 and 3. */
+static void start_objects(void)
+{
+    lend_fresh(FILL);
+    done(trunhoac_fill_load(record, 0));
+    done(trunhoac_fill_load(record, SLOTS - 1));
+    done(trunhoac_fill_start(record, 1, 0, 2));
+    done(trunhoac_fill_start(record, OBJECTS, SLOTS - 1, PLACES));
+}
+
+static void test_objects(void)
+{
+    start_objects();
+    expect(k.loaded[0] == 1 && k.loaded[1] == 0 && k.loaded[SLOTS - 1] == 1, "loaded slots");
+    expect(k.depths[0] == 2 && k.depths[1] == 0 && k.depths[OBJECTS - 1] == PLACES, "depths");
+    expect(k.rests[0] == 1 && k.rests[1] == 0 && k.rests[OBJECTS - 1] == 1, "states of rest");
+    expect(k.seats[0] == 0 && k.seats[OBJECTS - 1] == SLOTS - 1, "the objects' slots");
+
+    done(trunhoac_fill_subscribe(record, 1, 4));
+    done(trunhoac_fill_subscribe(record, OBJECTS, 31));
+    expect(k.wants[4] == 1 && k.wants[5] == 0, "the first subscription");
+    expect(k.wants[OBJECTS * SIGNAL_PLACES - 1] == 1, "the last subscription");
+}
+
+/* The entries of an object, counted from 0 as here all are, stand in a ring from its head on. */
+static uint16_t entry(size_t object, size_t from_front)
+{
+    return k.places[PLACES * object + (k.heads[object] + from_front) % PLACES];
+}
+
+static void test_mail(void)
+{
+    start_objects();
+    done(trunhoac_fill_new(record, 6, NULL, 0));
+    done(trunhoac_fill_new(record, 7, NULL, 0));
+    done(trunhoac_fill_post(record, first_block, 1, 0));
+    done(trunhoac_fill_post(record, first_block, OBJECTS, 0));
+    done(trunhoac_fill_post(record, (struct trunhoac_handle){1, 0}, OBJECTS, 0));
+    expect(k.counts[0] == 1 && k.counts[1] == 0 && k.counts[OBJECTS - 1] == 2, "how many are queued");
+    expect(entry(0, 0) == 1, "the first mailbox");
+    expect(entry(OBJECTS - 1, 0) == 1 && entry(OBJECTS - 1, 1) == 2, "the last mailbox");
+    uint8_t head = k.heads[OBJECTS - 1];
+
+    done(trunhoac_fill_next(record));
+    expect(k.hand == 1, "the block in hand");
+    expect(k.heads[OBJECTS - 1] == (head + 1) % PLACES && k.counts[OBJECTS - 1] == 1, "the front entry has left");
+    expect(k.rests[OBJECTS - 1] == 2 && k.rests[0] == 1, "the new state of rest");
+    done(trunhoac_fill_end(record));
+    expect(k.hand == 0, "nothing is in hand");
+}
+
+static void test_timers(void)
+{
+    enum { LAST_ENTRY = 64 + 32 * (TIMERS - 1) + 31 };
+
+    start_objects();
+    done(trunhoac_fill_arm(record, 0, 1, 4, 0x1234, 0x5678));
+    done(trunhoac_fill_arm(record, TIMERS - 1, OBJECTS, 31, 1, 0x9abc));
+    expect(k.owners[0] == 1 && k.owners[TIMERS - 1] == OBJECTS, "the timers' objects");
+    expect(k.alarms[0] == 4 && k.alarms[TIMERS - 1] == 31, "their signals");
+    expect(k.counters[0] == 0x1234 && k.counters[TIMERS - 1] == 1, "their ticks");
+    expect(k.intervals[0] == 0x5678 && k.intervals[TIMERS - 1] == 0x9abc, "their intervals");
+
+    done(trunhoac_fill_tick(record));
+    expect(k.counters[0] == 0x1233 && k.counters[TIMERS - 1] == 0x9abc, "the ticks that are left");
+    expect(entry(OBJECTS - 1, 0) == LAST_ENTRY, "a timer's entry");
+    done(trunhoac_fill_next(record));
+    expect(k.hand == LAST_ENTRY, "the timer in hand");
+}
+
+void test_layout(void)
+{
+    now_at("layout", 0);
+    test_fresh();
+    test_blocks();
+    test_objects();
+    test_mail();
+    test_timers();
+}

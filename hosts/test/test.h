@@ -1,0 +1,53 @@
+/* What the files of the test offer each other. */
+#ifndef TEST_H
+#define TEST_H
+
+#include "trunhoac.h"
+
+#include <stdbool.h>
+#include <stdio.h>
+
+/* check.c: counts what holds, and tells what does not and where. */
+struct score {
+    unsigned long passed;
+    unsigned long failed;
+};
+
+extern struct score score;
+
+void now_at(const char *what, unsigned long number);
+void expect(bool holds, const char *what);
+
+/* lent.c: the memory that the calls are lent, between guards. */
+struct chart {
+    size_t length;
+    uint8_t bytes[TRUNHOAC_MOST_CHART_BYTES + 1]; /* so that a file that is too long is a chart that is too long */
+};
+
+enum { FILL = 170 };
+
+void lend_fresh(uint8_t fill);
+const uint8_t *command(const uint8_t *record, size_t length, const struct chart *chart);
+const struct trunhoac_kernel *lent_kernel(void);
+
+/* player.c: has a record answered, with the chart of a LOAD from a folder. */
+const uint8_t *answer(const char *folder, const uint8_t *record, size_t length);
+FILE *open_in(const char *folder, const char *name);
+
+/* words.c: a record written in words, and the reply behind it. */
+struct line {
+    bool is_fresh;
+    size_t length; /* 0 where the line has no record */
+    uint8_t record[TRUNHOAC_RECORD_BYTES];
+    uint8_t reply[TRUNHOAC_REPLY_BYTES];
+};
+
+bool read_words(char *text, struct line *line);
+
+/* The tests. The first two answer how many replies they compared. */
+unsigned long test_vectors(const char *folder);
+unsigned long test_doc_cases(const char *folder);
+void test_layout(void);
+void test_areas(void);
+
+#endif

@@ -1,0 +1,102 @@
+/*
+ * Reads a record written in words, and the bytes of its reply behind `=`:
+ *     POST 0 0 9 2 = 0 0 0 0 1
+ * A number for a name is the first byte of a record, PIECE a record of just the bytes that follow, FRESH a mark.
+ */
+#include "test.h"
+
+#include <stdlib.h>
+
+#define BLANKS " \t\r\n"
+
+enum { ARM_TICKS = 4, NEW_UNUSED = 3, PAYLOAD = 8 };
+
+static const char *const names[] = {
+    [TRUNHOAC_LOAD] = "LOAD",           [TRUNHOAC_START] = "START",
+    [TRUNHOAC_NEW] = "NEW",             [TRUNHOAC_POST] = "POST",
+    [TRUNHOAC_POSTFRONT] = "POSTFRONT", [TRUNHOAC_PUBLISH] = "PUBLISH",
+    [TRUNHOAC_SUBSCRIBE] = "SUBSCRIBE", [TRUNHOAC_UNSUBSCRIBE] = "UNSUBSCRIBE",
+    [TRUNHOAC_HOLD] = "HOLD",           [TRUNHOAC_RELEASE] = "RELEASE",
+    [TRUNHOAC_DROP] = "DROP",           [TRUNHOAC_NEXT] = "NEXT",
+    [TRUNHOAC_END] = "END",             [TRUNHOAC_ARM] = "ARM",
+    [TRUNHOAC_DISARM] = "DISARM",       [TRUNHOAC_TICK] = "TICK",
+    [TRUNHOAC_READ] = "READ",           [TRUNHOAC_DRAIN] = "DRAIN",
+};
+
+/* 0 if there is no such command. */
+static uint8_t command_named(const char *word)
+{
+    for (uint8_t i = TRUNHOAC_LOAD; i <= TRUNHOAC_DRAIN; i++)
+        if (strcmp(word, names[i]) == 0)
+            return i;
+    return 0;
+}
+
+static bool read_number(const char *word, unsigned long most, unsigned long *number)
+{
+    char *end;
+    if (*word < '0' || '9' < *word)
+        return false;
+    *number = strtoul(word, &end, 10);
+    return *end == '\0' && *number <= most;
+}
+
+/* A payload begins behind the arguments, and only the last two numbers of ARM take two bytes, low byte first. */
+static bool put(struct line *line, uint8_t name, size_t *at, const char *word)
+{
+    unsigned long number;
+    if (name == TRUNHOAC_NEW && *at == NEW_UNUSED)
+        *at = PAYLOAD;
+    size_t width = name == TRUNHOAC_ARM && *at >= ARM_TICKS ? 2 : 1;
+    if (*at + width > sizeof line->record || !read_number(word, width == 2 ? UINT16_MAX : UINT8_MAX, &number))
+        return false;
+    line->record[(*at)++] = (uint8_t)number;
+    if (width == 2)
+        line->record[(*at)++] = (uint8_t)(number >> 8);
+    return true;
+}
+
+/* Reads the words that strtok still has. */
+static bool read_record(struct line *line, const char *first)
+{
+    bool is_piece = strcmp(first, "PIECE") == 0;
+    uint8_t name = command_named(first);
+    size_t at = 0;
+
+    if (name != 0)
+        line->record[at++] = name;
+    else if (!is_piece && !put(line, name, &at, first))
+        return false;
+    for (const char *word = strtok(NULL, BLANKS); word != NULL; word = strtok(NULL, BLANKS))
+        if (!put(line, name, &at, word))
+            return false;
+    line->length = is_piece ? at : sizeof line->record;
+    return line->length > 0;
+}
+
+/* The zeros at the end of a reply are not written. */
+static bool read_reply(struct line *line, char *text)
+{
+    size_t at = 0;
+    for (const char *word = strtok(text, BLANKS); word != NULL; word = strtok(NULL, BLANKS)) {
+        unsigned long number;
+        if (at == sizeof line->reply || !read_number(word, UINT8_MAX, &number))
+            return false;
+        line->reply[at++] = (uint8_t)number;
+    }
+    return at > 0;
+}
+
+bool read_words(char *text, struct line *line)
+{
+    char *end = text + strcspn(text, "#=");
+    bool is_answered = *end == '=';
+
+    memset(line, 0, sizeof *line);
+    *end = '\0';
+    const char *first = strtok(text, BLANKS);
+    line->is_fresh = first != NULL && strcmp(first, "FRESH") == 0;
+    if (first == NULL || line->is_fresh)
+        return !is_answered;
+    return is_answered && read_record(line, first) && read_reply(line, end + 1);
+}
