@@ -3,13 +3,11 @@
 
 struct score score;
 
-static const char *place = "";
-static unsigned long place_number;
+static char place[256];
 
 void now_at(const char *what, unsigned long number)
 {
-    place = what;
-    place_number = number;
+    snprintf(place, sizeof place, "%s %lu", what, number);
 }
 
 void expect(bool holds, const char *what)
@@ -18,6 +16,6 @@ void expect(bool holds, const char *what)
         score.passed++;
     } else {
         score.failed++;
-        printf("failed: %s %lu: %s\n", place, place_number, what);
+        printf("failed: %s: %s\n", place, what);
     }
 }

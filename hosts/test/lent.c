@@ -1,5 +1,5 @@
 /*
- * The memory that the calls are lent: each thing stands between guards, and every call is held to what it may write.
+ * The memory that the calls are lent: each thing stands between guards, and every call is held to what it has to write.
  *
  * Before a record is answered, trunhoac_read is asked about it, and held against the reply.
  */
@@ -30,7 +30,7 @@ struct memory {
     uint8_t behind_reply[GUARD_BYTES];
 };
 
-/* What is lent, and what it should be after a call: a copy from before it, with what the call may write taken over. */
+/* What is lent, and what it has to be after a call: a copy from before it, with what the call has to write. */
 static struct memory lent;
 static struct memory due;
 
@@ -72,12 +72,6 @@ static void ask_where(size_t record_length)
     expect_as_due("trunhoac_read writes place and length alone");
 }
 
-/* Document 01: the blocks in order, 32 of 16 bytes, 16 of 32, 8 of 64. */
-static size_t place_of(size_t block)
-{
-    return block < 32 ? 16 * block : block < 48 ? 512 + 32 * (block - 32) : 1024 + 64 * (block - 48);
-}
-
 static bool shows_payload(void)
 {
     size_t shown = lent.length < MOST_SHOWN ? lent.length : MOST_SHOWN;
@@ -97,19 +91,20 @@ static void expect_where(size_t record_length)
 }
 
 /* After a refusal only the reply is written, and only three commands write to an area. */
-static void expect_written(void)
+static void expect_written(size_t chart_length)
 {
     memcpy(due.reply, lent.reply, sizeof lent.reply);
     if (lent.reply[0] == TRUNHOAC_DONE) {
-        due.kernel = lent.kernel;
         if (lent.record[0] == TRUNHOAC_NEW)
-            memcpy(due.payloads, lent.payloads, sizeof lent.payloads);
+            write_payload(due.payloads, lent.record, lent.reply);
         if (lent.record[0] == TRUNHOAC_LOAD)
-            memcpy(due.tables, lent.tables, sizeof lent.tables);
+            write_table(due.tables, lent.record, lent.chart, chart_length);
         if (lent.record[0] == TRUNHOAC_DRAIN)
-            memcpy(due.log, lent.log, sizeof lent.log);
+            write_log(due.log, due.kernel, due.tables, lent.reply[TRUNHOAC_AT_VALUES]);
+        if (lent.record[0] != TRUNHOAC_READ)
+            due.kernel = lent.kernel;
     }
-    expect_as_due("the command writes what it may write alone");
+    expect_as_due("the command writes what it has to write, and nothing else");
 }
 
 const uint8_t *command(const uint8_t *record, size_t length, const struct chart *chart)
@@ -124,7 +119,7 @@ const uint8_t *command(const uint8_t *record, size_t length, const struct chart 
     trunhoac_command(&lent.kernel, lent.record, length, chart->length == 0 ? NULL : lent.chart, chart->length,
                      lent.payloads, sizeof lent.payloads, lent.tables, sizeof lent.tables,
                      lent.log, sizeof lent.log, lent.reply);
-    expect_written();
+    expect_written(chart->length);
     expect_where(length);
     return lent.reply;
 }

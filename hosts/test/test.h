@@ -30,6 +30,12 @@ void lend_fresh(uint8_t fill);
 const uint8_t *command(const uint8_t *record, size_t length, const struct chart *chart);
 const struct trunhoac_kernel *lent_kernel(void);
 
+/* written.c: what a command that is done has to write to an area, and where a block stands. */
+size_t place_of(size_t block);
+void write_payload(uint8_t *payloads, const uint8_t *record, const uint8_t *reply);
+void write_table(uint8_t *tables, const uint8_t *record, const uint8_t *chart, size_t chart_length);
+void write_log(uint8_t *log, struct trunhoac_kernel kernel, uint8_t *tables, size_t steps);
+
 /* player.c: has a record answered, with the chart of a LOAD from a folder. */
 const uint8_t *answer(const char *folder, const uint8_t *record, size_t length);
 FILE *open_in(const char *folder, const char *name);
@@ -49,5 +55,6 @@ unsigned long test_vectors(const char *folder);
 unsigned long test_doc_cases(const char *folder);
 void test_layout(void);
 void test_areas(void);
+void test_records(void);
 
 #endif

@@ -28,6 +28,7 @@ static unsigned long play_trace(const struct files *files, const uint8_t *header
     unsigned long number = 0;
 
     snprintf(charts, sizeof charts, "%s/data/%c", files->folder, header[0]);
+    now_at(charts, 0);
     lend_fresh(FILL);
     while (left > 0) {
         size_t length = left < sizeof record ? left : sizeof record;
