@@ -1,0 +1,100 @@
+#include "cases.h"
+
+enum { COUNT = TRUNHOAC_AT_COUNT, VALUES = TRUNHOAC_AT_VALUES, PAYLOAD = 8 };
+
+/* The replies are written by hand from document 01: DONE is 0, and so are the bytes that are not named. */
+const struct bench_case cases[] = {
+    {.name = "empty loop", .call = NOTHING, .prepare = all_started},
+    {.name = "copy of the kernel", .call = COPY, .prepare = all_started},
+
+    {.name = "refused: 71 bytes", .call = SHORT_COMMAND, .prepare = all_started,
+     .record = {TRUNHOAC_TICK}, .expected = {.reply = {TRUNHOAC_FORM}}},
+
+    {.name = "LOAD, shift chart", .call = COMMAND, .prepare = all_started, .chart = SHIFT_CHART,
+     .record = {TRUNHOAC_LOAD, 1}, .expected = {.reply = {[VALUES] = 5}}},
+    {.name = "LOAD, largest chart", .call = COMMAND, .prepare = all_started, .chart = LARGEST_CHART,
+     .record = {TRUNHOAC_LOAD, 1}, .expected = {.reply = {[VALUES] = 24}}},
+
+    {.name = "START", .call = COMMAND, .prepare = all_but_nine_started,
+     .record = {TRUNHOAC_START, 9, 0, 16}, .expected = {.reply = {0, 9, 64, 4, 0, 0, 10, 11, 13, 21}}},
+
+    {.name = "NEW, 0 bytes", .call = COMMAND, .prepare = all_started,
+     .record = {TRUNHOAC_NEW, MOVES, 0}, .expected = {.reply = {[VALUES] = 0, 0}}},
+    {.name = "NEW, 16 bytes", .call = COMMAND, .prepare = all_started,
+     .record = {TRUNHOAC_NEW, MOVES, 16, [PAYLOAD] = SIXTEEN_BYTES}, .expected = {.reply = {[VALUES] = 0, 0}}},
+    {.name = "NEW, 64 bytes", .call = COMMAND, .prepare = all_started,
+     .record = {TRUNHOAC_NEW, MOVES, 64, [PAYLOAD] = SIXTEEN_BYTES, SIXTEEN_BYTES, SIXTEEN_BYTES, SIXTEEN_BYTES},
+     .expected = {.reply = {[VALUES] = 48, 0}}},
+    {.name = "NEW, 16 bytes, the last of 32 blocks", .call = COMMAND, .prepare = one_block_of_16_left,
+     .record = {TRUNHOAC_NEW, MOVES, 16, [PAYLOAD] = SIXTEEN_BYTES}, .expected = {.reply = {[VALUES] = 31, 0}}},
+
+    {.name = "POST", .call = COMMAND, .prepare = event_at_nine,
+     .record = {TRUNHOAC_POST, 0, 0, 9, 0}, .expected = {.reply = {[VALUES] = 2}}},
+    {.name = "POSTFRONT", .call = COMMAND, .prepare = event_at_nine,
+     .record = {TRUNHOAC_POSTFRONT, 0, 0, 9}, .expected = {.reply = {[VALUES] = 2}}},
+
+    {.name = "PUBLISH to none", .call = COMMAND, .prepare = event_made,
+     .record = {TRUNHOAC_PUBLISH, 0, 0}, .expected = {.reply = {[VALUES] = 0, 1}}},
+    {.name = "PUBLISH to 1", .call = COMMAND, .prepare = event_and_one_subscriber,
+     .record = {TRUNHOAC_PUBLISH, 0, 0}, .expected = {.reply = {[VALUES] = 1, 0}}},
+    {.name = "PUBLISH to 16", .call = COMMAND, .prepare = event_and_sixteen_subscribers,
+     .record = {TRUNHOAC_PUBLISH, 0, 0}, .expected = {.reply = {[VALUES] = 16, 0}}},
+
+    {.name = "SUBSCRIBE", .call = COMMAND, .prepare = all_started,
+     .record = {TRUNHOAC_SUBSCRIBE, 9, MOVES}, .expected = {.reply = {[VALUES] = 1}}},
+    {.name = "UNSUBSCRIBE", .call = COMMAND, .prepare = event_and_one_subscriber,
+     .record = {TRUNHOAC_UNSUBSCRIBE, 9, MOVES}, .expected = {.reply = {[VALUES] = 1}}},
+
+    {.name = "HOLD", .call = COMMAND, .prepare = event_made,
+     .record = {TRUNHOAC_HOLD, 0, 0}, .expected = {.reply = {[VALUES] = 1}}},
+    {.name = "RELEASE, not freeing", .call = COMMAND, .prepare = event_held_twice,
+     .record = {TRUNHOAC_RELEASE, 0, 0}, .expected = {.reply = {[VALUES] = 1, 0}}},
+    {.name = "RELEASE, freeing", .call = COMMAND, .prepare = event_held_once,
+     .record = {TRUNHOAC_RELEASE, 0, 0}, .expected = {.reply = {[VALUES] = 0, 1}}},
+    {.name = "DROP", .call = COMMAND, .prepare = event_made,
+     .record = {TRUNHOAC_DROP, 0, 0}, .expected = {.reply = {0}}},
+
+    /* Outcome 2 and signal 6 are 70; the four actions are the paper's "2 by 6". */
+    {.name = "NEXT, mail at object 16", .call = COMMAND, .prepare = event_at_sixteen,
+     .record = {TRUNHOAC_NEXT}, .expected = {.reply = {0, 16, 70, 4, 0, 0, 22, 26, 31, 41}}},
+    {.name = "NEXT, mail at object 1 only", .call = COMMAND, .prepare = event_at_one,
+     .record = {TRUNHOAC_NEXT}, .expected = {.reply = {0, 1, 70, 4, 0, 0, 22, 26, 31, 41}}},
+
+    {.name = "END, freeing", .call = COMMAND, .prepare = event_in_hand,
+     .record = {TRUNHOAC_END}, .expected = {.reply = {[VALUES] = 1}}},
+    {.name = "END, not freeing", .call = COMMAND, .prepare = event_in_hand_and_queued,
+     .record = {TRUNHOAC_END}, .expected = {.reply = {[VALUES] = 0}}},
+
+    {.name = "ARM", .call = COMMAND, .prepare = all_started,
+     .record = {TRUNHOAC_ARM, 0, 9, MOVES, 100, 0, 100, 0}, .expected = {.reply = {0}}},
+    {.name = "DISARM", .call = COMMAND, .prepare = one_timer_counting,
+     .record = {TRUNHOAC_DISARM, 0}, .expected = {.reply = {[VALUES] = 1}}},
+
+    {.name = "TICK, no timer armed", .call = COMMAND, .prepare = all_started,
+     .record = {TRUNHOAC_TICK}, .expected = {.reply = {[VALUES] = 0, 0}}},
+    {.name = "TICK, 16 counting down", .call = COMMAND, .prepare = sixteen_timers_counting,
+     .record = {TRUNHOAC_TICK}, .expected = {.reply = {[VALUES] = 0, 0}}},
+    {.name = "TICK, 16 firing", .call = COMMAND, .prepare = sixteen_timers_due,
+     .record = {TRUNHOAC_TICK}, .expected = {.reply = {[VALUES] = 16, 0}}},
+
+    {.name = "READ, 0 bytes", .call = COMMAND, .prepare = event_without_bytes,
+     .record = {TRUNHOAC_READ, 0, 0}, .expected = {.reply = {[COUNT] = 0, 0}}},
+    {.name = "READ, 64 bytes", .call = COMMAND, .prepare = event_of_64_bytes,
+     .record = {TRUNHOAC_READ, 48, 0}, .expected = {.reply = {[COUNT] = 18, 64, 0, SIXTEEN_BYTES, 1, 2}}},
+    {.name = "trunhoac_read, 64 bytes", .call = READ_PART, .prepare = event_of_64_bytes,
+     .record = {TRUNHOAC_READ, 48, 0}, .expected = {.part = {1024, 64}}},
+
+    {.name = "DRAIN, nothing queued", .call = COMMAND, .prepare = all_started,
+     .record = {TRUNHOAC_DRAIN, 255}, .expected = {.reply = {[VALUES] = 0, 1}}},
+    {.name = "DRAIN, 16 steps", .call = COMMAND, .prepare = queued_16_times, .steps = 16,
+     .record = {TRUNHOAC_DRAIN, 255}, .expected = {.reply = {[VALUES] = 16, 1}}},
+    {.name = "DRAIN, 255 steps", .call = COMMAND, .prepare = queued_255_times, .steps = 255,
+     .record = {TRUNHOAC_DRAIN, 255}, .expected = {.reply = {[VALUES] = 255, 1}}},
+
+    {.name = "chart_check, shift chart", .call = CHECK, .prepare = all_started, .chart = SHIFT_CHART,
+     .expected = {.class = 0}},
+    {.name = "chart_check, largest chart", .call = CHECK, .prepare = all_started, .chart = LARGEST_CHART,
+     .expected = {.class = 0}},
+};
+
+const size_t case_count = sizeof cases / sizeof cases[0];

@@ -1,0 +1,228 @@
+#include "states.h"
+
+#include <stdio.h>
+#include <stdlib.h>
+
+enum { OBJECTS = 16, DEPTH = 16, TIMERS = 16, BLOCKS_OF_16 = 32, LONG_TIME = 1000 };
+
+static const uint8_t payload[TRUNHOAC_MOST_PAYLOAD_BYTES] = {
+    SIXTEEN_BYTES, SIXTEEN_BYTES, SIXTEEN_BYTES, SIXTEEN_BYTES
+};
+
+/* Whatever is posted, held or published is the first event made, of 16 bytes. */
+static const struct trunhoac_handle event = {0, 0};
+
+static void give_with(struct state *state, const uint8_t *record, const uint8_t *chart, size_t chart_length)
+{
+    struct areas *areas = &state->areas;
+    uint8_t reply[TRUNHOAC_REPLY_BYTES];
+
+    trunhoac_command(&state->kernel, record, TRUNHOAC_RECORD_BYTES, chart, chart_length,
+                     areas->payloads, sizeof areas->payloads, areas->tables, sizeof areas->tables,
+                     areas->log, sizeof areas->log, reply);
+    if (reply[TRUNHOAC_AT_NUMBER] != TRUNHOAC_DONE) {
+        fprintf(stderr, "command %d of a preparation is refused: %d\n", record[0], reply[TRUNHOAC_AT_NUMBER]);
+        exit(EXIT_FAILURE);
+    }
+}
+
+static void give(struct state *state, const uint8_t *record)
+{
+    give_with(state, record, NULL, 0);
+}
+
+static void start(struct state *state, uint8_t p)
+{
+    uint8_t record[TRUNHOAC_RECORD_BYTES];
+    trunhoac_fill_start(record, p, 0, DEPTH);
+    give(state, record);
+}
+
+static void make(struct state *state, uint8_t signal, uint8_t size)
+{
+    uint8_t record[TRUNHOAC_RECORD_BYTES];
+    trunhoac_fill_new(record, signal, payload, size);
+    give(state, record);
+}
+
+static void post(struct state *state, uint8_t p)
+{
+    uint8_t record[TRUNHOAC_RECORD_BYTES];
+    trunhoac_fill_post(record, event, p, 0);
+    give(state, record);
+}
+
+static void hold(struct state *state)
+{
+    uint8_t record[TRUNHOAC_RECORD_BYTES];
+    trunhoac_fill_hold(record, event);
+    give(state, record);
+}
+
+static void subscribe(struct state *state, uint8_t p)
+{
+    uint8_t record[TRUNHOAC_RECORD_BYTES];
+    trunhoac_fill_subscribe(record, p, MOVES);
+    give(state, record);
+}
+
+static void next(struct state *state)
+{
+    uint8_t record[TRUNHOAC_RECORD_BYTES];
+    trunhoac_fill_next(record);
+    give(state, record);
+}
+
+/* Timer 0 belongs to object 1, and so on. */
+static void arm(struct state *state, uint8_t timer, uint16_t ticks)
+{
+    uint8_t record[TRUNHOAC_RECORD_BYTES];
+    trunhoac_fill_arm(record, timer, timer + 1, MOVES, ticks, LONG_TIME);
+    give(state, record);
+}
+
+void shift_chart_loaded(struct state *state, const struct chart *shift)
+{
+    uint8_t record[TRUNHOAC_RECORD_BYTES];
+
+    memset(state, 0, sizeof *state);
+    trunhoac_fresh(&state->kernel);
+    trunhoac_fill_load(record, 0);
+    give_with(state, record, shift->bytes, shift->length);
+}
+
+void all_started(struct state *state)
+{
+    for (uint8_t p = 1; p <= OBJECTS; p++)
+        start(state, p);
+}
+
+void all_but_nine_started(struct state *state)
+{
+    for (uint8_t p = 1; p <= OBJECTS; p++)
+        if (p != 9)
+            start(state, p);
+}
+
+void one_block_of_16_left(struct state *state)
+{
+    all_started(state);
+    for (int taken = 0; taken < BLOCKS_OF_16 - 1; taken++)
+        make(state, MOVES, 16);
+}
+
+void event_made(struct state *state)
+{
+    all_started(state);
+    make(state, MOVES, 16);
+}
+
+void event_at_nine(struct state *state)
+{
+    event_made(state);
+    post(state, 9);
+}
+
+void event_at_sixteen(struct state *state)
+{
+    event_made(state);
+    post(state, 16);
+}
+
+void event_at_one(struct state *state)
+{
+    event_made(state);
+    post(state, 1);
+}
+
+void event_held_once(struct state *state)
+{
+    event_made(state);
+    hold(state);
+}
+
+void event_held_twice(struct state *state)
+{
+    event_held_once(state);
+    hold(state);
+}
+
+void event_and_one_subscriber(struct state *state)
+{
+    event_made(state);
+    subscribe(state, 9);
+}
+
+void event_and_sixteen_subscribers(struct state *state)
+{
+    event_made(state);
+    for (uint8_t p = 1; p <= OBJECTS; p++)
+        subscribe(state, p);
+}
+
+void event_in_hand(struct state *state)
+{
+    event_at_nine(state);
+    next(state);
+}
+
+void event_in_hand_and_queued(struct state *state)
+{
+    event_at_nine(state);
+    post(state, 5);
+    next(state);
+}
+
+void one_timer_counting(struct state *state)
+{
+    all_started(state);
+    arm(state, 0, LONG_TIME);
+}
+
+static void sixteen_timers(struct state *state, uint16_t ticks)
+{
+    all_started(state);
+    for (uint8_t timer = 0; timer < TIMERS; timer++)
+        arm(state, timer, ticks);
+}
+
+void sixteen_timers_counting(struct state *state)
+{
+    sixteen_timers(state, LONG_TIME);
+}
+
+void sixteen_timers_due(struct state *state)
+{
+    sixteen_timers(state, 1);
+}
+
+void event_without_bytes(struct state *state)
+{
+    all_started(state);
+    make(state, MOVES, 0);
+}
+
+void event_of_64_bytes(struct state *state)
+{
+    all_started(state);
+    make(state, MOVES, 64);
+}
+
+/* Round by round through the objects, so that the mailboxes are as full as one another. */
+static void queued(struct state *state, int times)
+{
+    all_started(state);
+    make(state, RETURNS, 16);
+    for (int queued = 0; queued < times; queued++)
+        post(state, (uint8_t)(OBJECTS - queued % OBJECTS));
+}
+
+void queued_16_times(struct state *state)
+{
+    queued(state, 16);
+}
+
+void queued_255_times(struct state *state)
+{
+    queued(state, 255);
+}

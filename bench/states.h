@@ -1,0 +1,67 @@
+/* The states of the kernel that the cases begin with. Each is made by commands, every one of which must be done. */
+#ifndef BENCH_STATES_H
+#define BENCH_STATES_H
+
+#include "../include/trunhoac.h"
+
+/* What the host lends. */
+struct areas {
+    uint8_t payloads[TRUNHOAC_PAYLOAD_AREA];
+    uint8_t tables[TRUNHOAC_TABLE_AREA];
+    uint8_t log[TRUNHOAC_LOG_AREA];
+};
+
+struct state {
+    struct trunhoac_kernel kernel;
+    struct areas areas;
+};
+
+struct chart {
+    uint8_t bytes[TRUNHOAC_MOST_CHART_BYTES];
+    size_t length;
+};
+
+/* Signals, as the shift chart takes them at its first state of rest, 2. */
+enum {
+    RETURNS = 5, /* a transition that ends in 2 again, so that each of many steps is the same */
+    MOVES = 6    /* the transition to 4 */
+};
+
+/* Fresh, with the shift chart in slot 0. */
+void shift_chart_loaded(struct state *state, const struct chart *shift);
+
+/* Each of these goes on from there. All sixteen objects are started, with mailboxes of 16 places. */
+void all_started(struct state *state);
+void all_but_nine_started(struct state *state);
+void one_block_of_16_left(struct state *state);
+
+/* One event that moves, in block 0, with no reference. */
+void event_made(struct state *state);
+void event_at_nine(struct state *state);
+void event_at_sixteen(struct state *state);
+void event_at_one(struct state *state);
+void event_held_once(struct state *state);
+void event_held_twice(struct state *state);
+void event_and_one_subscriber(struct state *state);
+void event_and_sixteen_subscribers(struct state *state);
+
+/* A step is open, and the event in hand is queued nowhere, or at another object too. */
+void event_in_hand(struct state *state);
+void event_in_hand_and_queued(struct state *state);
+
+void one_timer_counting(struct state *state);
+void sixteen_timers_counting(struct state *state);
+void sixteen_timers_due(struct state *state);
+
+/* An event of no bytes, in block 0, and one of 64, in block 48. */
+void event_without_bytes(struct state *state);
+void event_of_64_bytes(struct state *state);
+
+/* One event that returns, queued once at each object; and 16 times at each, but 15 at object 1. */
+void queued_16_times(struct state *state);
+void queued_255_times(struct state *state);
+
+/* The payload of every event: so many first bytes of these. */
+#define SIXTEEN_BYTES 1, 2, 3, 4, 5, 6, 7, 8, 9, 10, 11, 12, 13, 14, 15, 16
+
+#endif
