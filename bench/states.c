@@ -34,51 +34,44 @@ static void give(struct state *state, const uint8_t *record)
 static void start(struct state *state, uint8_t p)
 {
     uint8_t record[TRUNHOAC_RECORD_BYTES];
-    trunhoac_fill_start(record, p, 0, DEPTH);
-    give(state, record);
+    give(state, trunhoac_fill_start(record, p, 0, DEPTH));
 }
 
 static void make(struct state *state, uint8_t signal, uint8_t size)
 {
     uint8_t record[TRUNHOAC_RECORD_BYTES];
-    trunhoac_fill_new(record, signal, payload, size);
-    give(state, record);
+    give(state, trunhoac_fill_new(record, signal, payload, size));
 }
 
 static void post(struct state *state, uint8_t p)
 {
     uint8_t record[TRUNHOAC_RECORD_BYTES];
-    trunhoac_fill_post(record, event, p, 0);
-    give(state, record);
+    give(state, trunhoac_fill_post(record, event, p, 0));
 }
 
 static void hold(struct state *state)
 {
     uint8_t record[TRUNHOAC_RECORD_BYTES];
-    trunhoac_fill_hold(record, event);
-    give(state, record);
+    give(state, trunhoac_fill_hold(record, event));
 }
 
 static void subscribe(struct state *state, uint8_t p)
 {
     uint8_t record[TRUNHOAC_RECORD_BYTES];
-    trunhoac_fill_subscribe(record, p, MOVES);
-    give(state, record);
+    give(state, trunhoac_fill_subscribe(record, p, MOVES));
 }
 
 static void next(struct state *state)
 {
     uint8_t record[TRUNHOAC_RECORD_BYTES];
-    trunhoac_fill_next(record);
-    give(state, record);
+    give(state, trunhoac_fill_next(record));
 }
 
 /* Timer 0 belongs to object 1, and so on. */
 static void arm(struct state *state, uint8_t timer, uint16_t ticks)
 {
     uint8_t record[TRUNHOAC_RECORD_BYTES];
-    trunhoac_fill_arm(record, timer, timer + 1, MOVES, ticks, LONG_TIME);
-    give(state, record);
+    give(state, trunhoac_fill_arm(record, timer, timer + 1, MOVES, ticks, LONG_TIME));
 }
 
 void shift_chart_loaded(struct state *state, const struct chart *shift)
@@ -87,8 +80,7 @@ void shift_chart_loaded(struct state *state, const struct chart *shift)
 
     memset(state, 0, sizeof *state);
     trunhoac_fresh(&state->kernel);
-    trunhoac_fill_load(record, 0);
-    give_with(state, record, shift->bytes, shift->length);
+    give_with(state, trunhoac_fill_load(record, 0), shift->bytes, shift->length);
 }
 
 void all_started(struct state *state)
