@@ -2,15 +2,12 @@
 //
 // The walk of a reference to a struct is proved by hand, so each exported function is one line over a function that takes the struct itself.
 ghost use mathlib.Core.Path.{_≡_};
-ghost use Prim.Native.Nat.{_+_, _≤_};
-ghost use lib.ListN as List;
-ghost use lib.ListN.{drop, take};
 ghost use Rattle.chart.specs.Chart.{classOf};
 ghost use Rattle.chart.specs.Flat.{flattened};
-ghost use Rattle.host.specs.Told.{told};
-ghost use Rattle.machine.specs.Machine.{answerTo, partAt, partOf};
+ghost use Rattle.host.specs.Told.{Found, told};
+ghost use Rattle.machine.specs.Machine.{answerTo};
 ghost use Rattle.machine.specs.State.{freshState};
-ghost use Rattle.state.specs.View.{answered, areas, Good, stateOf};
+ghost use Rattle.state.specs.View.{areas, Good, stateOf};
 use kernel::Kernel;
 use numbers::REPLY_BYTES;
 
@@ -33,7 +30,7 @@ fn answer(
 ) -> Kernel
     requires { ⌜ Good k ⌝ }
     ensures { λ r. ⌜ Good r
-        × (answered (told r (now (reply .exit))) (areas (now (payloads .exit)) (now (tables .exit)) (now (log .exit)))
+        × (told r (now (reply .exit)) (areas (now (payloads .exit)) (now (tables .exit)) (now (log .exit)))
         ≡ answerTo (stateOf k) (now («record» .entry)) (now (chart .entry))
         (areas (now (payloads .entry)) (now (tables .entry)) (now (log .entry)))) ⌝ }
 {
@@ -46,9 +43,7 @@ fn answer(
 // Writes where the part that READ hands back begins, and how long it is.
 fn find_part(k: Kernel, record: &[u8], payloads: &[u8], place: &mut usize, length: &mut usize)
     requires { ⌜ Good k ⌝ }
-    ensures { λ _. ⌜ (partAt (stateOf k) (now («record» .entry)) (now (payloads .entry)) ≡ (now (place .exit), now (length .exit)))
-        × (take (now (length .exit)) (drop (now (place .exit)) (now (payloads .entry))) ≡ partOf (stateOf k) (now («record» .entry)) (now (payloads .entry)))
-        × (now (place .exit) + now (length .exit) ≤ List.length (now (payloads .entry))) ⌝ }
+    ensures { λ _. ⌜ Found (stateOf k) (now («record» .entry)) (now (payloads .entry)) (now (place .exit)) (now (length .exit)) ⌝ }
 {
     let part = kernel::part_at(k, record, payloads);
     *place = part.place;
@@ -76,7 +71,7 @@ pub extern "C" fn trunhoac_command(
 )
     requires { ⌜ Good (now k) ⌝ }
     ensures { λ _. ⌜ Good (now (k .exit))
-        × (answered (told (now (k .exit)) (now (reply .exit))) (areas (now (payloads .exit)) (now (tables .exit)) (now (log .exit)))
+        × (told (now (k .exit)) (now (reply .exit)) (areas (now (payloads .exit)) (now (tables .exit)) (now (log .exit)))
         ≡ answerTo (stateOf (now (k .entry))) (now («record» .entry)) (now (chart .entry))
         (areas (now (payloads .entry)) (now (tables .entry)) (now (log .entry)))) ⌝ }
 {
@@ -93,9 +88,7 @@ pub extern "C" fn trunhoac_read(
     length: &mut usize,
 )
     requires { ⌜ Good (now k) ⌝ }
-    ensures { λ _. ⌜ (partAt (stateOf (now (k .entry))) (now («record» .entry)) (now (payloads .entry)) ≡ (now (place .exit), now (length .exit)))
-        × (take (now (length .exit)) (drop (now (place .exit)) (now (payloads .entry))) ≡ partOf (stateOf (now (k .entry))) (now («record» .entry)) (now (payloads .entry)))
-        × (now (place .exit) + now (length .exit) ≤ List.length (now (payloads .entry))) ⌝ }
+    ensures { λ _. ⌜ Found (stateOf (now (k .entry))) (now («record» .entry)) (now (payloads .entry)) (now (place .exit)) (now (length .exit)) ⌝ }
 {
     find_part(*k, record, payloads, place, length);
 }

@@ -38,7 +38,7 @@ use denote.Triple.Spec.{tripleOf}
 use denote.Triple.Walked.{says, needs, Stays, stay-ref, stay-dropped, gave-slice, gave-ref, walkOf, AllGo, goes-ref, goes-dropped, goes-gave-slice, goes-gave-ref, Walks, ends-at, walked}
 use denote.Exit.{yes}
 use Rattle.machine.specs.Machine.{answerTo}
-use Rattle.state.specs.View.{Good, answered, areas, stateOf}
+use Rattle.state.specs.View.{Good, areas, stateOf}
 use Rattle.state.specs.declared.Kernel.{Kernel}
 use Rattle.host.specs.Told.{told}
 use Rattle.host.proofs.Walk.{at-local, in-order, struct, value, typed, gone, held, opened, met}
@@ -145,7 +145,7 @@ module _ {M : Type 1} (𝓤 : URA M) (H : Heap 𝓤) (A : Atoms 𝓤) (W : Given
   to-callee = ((κs, qs, tt, args, (value h, vals)), tt)
 
   abbrev Ensured : Kernel → Lasts callee.ended κs args → Type 0
-  Ensured r ws = Good r × (answered (told r (ws .1 .1 .1 .1 .1 .1 .0)) (areas (ws .1 .1 .1 .0) (ws .1 .1 .1 .1 .0) (ws .1 .1 .1 .1 .1 .0)) ≡ answerTo (stateOf h) (x₁ .now) (x₂ .now) (areas (x₃ .now) (x₄ .now) (x₅ .now)))
+  Ensured r ws = Good r × (told r (ws .1 .1 .1 .1 .1 .1 .0) (areas (ws .1 .1 .1 .0) (ws .1 .1 .1 .1 .0) (ws .1 .1 .1 .1 .1 .0)) ≡ answerTo (stateOf h) (x₁ .now) (x₂ .now) (areas (x₃ .now) (x₄ .now) (x₅ .now)))
 
   goes : Good h → ent 𝓤 (sep 𝓤 Alive (sep 𝓤 (sem 𝓤 H A (struct .own h (value h))) (sem 𝓤 H A Rest))) (Callee 𝓤 H A at-mem run .pre to-callee)
   goes good = qed W (raw Alive ∷ ‵ (struct .own h (value h)) ∷ ‵ Rest ∷ []) ∵ says ! good $ frame ! $ fjoin ! $ done !
