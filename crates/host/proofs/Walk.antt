@@ -84,7 +84,7 @@ module _ {M : Type 1} {𝓤 : URA M} {H : Heap 𝓤} {A : Atoms 𝓤} {K : Type 
       move t (2 ∷ 0 ∷ 3 ∷ []) $ shuts t z struct q′ k (value k) b o $ s)
 
 -- A function that calls one other meets its contract, if its code does by what the other's contract says.
-module _ {M : Type 1} (𝓤 : URA M) (H : Heap 𝓤) (𝓜 : Model 𝓤 H) (𝓖 : GhostRules 𝓤 H) (𝓡 : Running 𝓤 H 𝓜) (T : Ended) (c : Clauses 𝓤 T) (stayed : Stays (T .signature .params) (T .kept))
+module _ {M : Type 1} (𝓤 : URA M) (H : Heap 𝓤) (𝓜 : Model 𝓤 H) (𝓖 : GhostRules 𝓤 H) (𝓡 : Running 𝓤 H 𝓜) (f : Ended) (c : Clauses 𝓤 f) (stayed : Stays (f .signature .params) (f .kept))
     (env : Env) (name : Name) (code : Fn) (callee : Contract 𝓤) (called : Name) (routine : Routine) where
   abbrev W : Given 𝓤 H (𝓖 .A)
   W = givenOf 𝓤 H 𝓜 𝓖
@@ -95,10 +95,10 @@ module _ {M : Type 1} (𝓤 : URA M) (H : Heap 𝓤) (𝓜 : Model 𝓤 H) (𝓖
   abbrev Λ : Loops 𝓤 H
   Λ = tables 𝓤 H 𝓜 𝓡 env .Λ
 
-  pub met : Closed 𝓤 H C Λ name code → env called ≡ routine → Triple 𝓤 (𝓡 .run routine) callee → AllGo 𝓤 H (𝓖 .A) W (T .signature .lifetimes) (T .signature .params) (T .kept) stayed
-      → (FmC 𝓤 H (W .laws) C → Triple 𝓤 (C called) callee → Walks 𝓤 H (𝓖 .A) T stayed (WpFn 𝓤 H C Λ code) c) → Triple 𝓤 (C name) (tripleOf 𝓤 H (𝓖 .A) (T .signature) (closing 𝓤 H (𝓖 .A) T c))
+  pub met : Closed 𝓤 H C Λ name code → env called ≡ routine → Triple 𝓤 (𝓡 .run routine) callee → AllGo 𝓤 H (𝓖 .A) W (f .signature .lifetimes) (f .signature .params) (f .kept) stayed
+      → (FmC 𝓤 H (W .laws) C → Triple 𝓤 (C called) callee → Walks 𝓤 H (𝓖 .A) f stayed (WpFn 𝓤 H C Λ code) c) → Triple 𝓤 (C name) (tripleOf 𝓤 H (𝓖 .A) (f .signature) (closing 𝓤 H (𝓖 .A) f c))
   unfolding tablesOf
   met closed is known go walk =
-      entered 𝓤 H (tripleOf 𝓤 H (𝓖 .A) (T .signature) (closing 𝓤 H (𝓖 .A) T c)) C Λ name code closed
-      (walk-meets 𝓤 H (𝓖 .A) T stayed W go c (WpFn 𝓤 H C Λ code) (WpFn-mono 𝓤 H (W .laws) (tablesOf 𝓤 H 𝓜 (tables 𝓤 H 𝓜 𝓡 env)) code)
+      entered 𝓤 H (tripleOf 𝓤 H (𝓖 .A) (f .signature) (closing 𝓤 H (𝓖 .A) f c)) C Λ name code closed
+      (walk-meets 𝓤 H (𝓖 .A) f stayed W go c (WpFn 𝓤 H C Λ code) (WpFn-mono 𝓤 H (W .laws) (tablesOf 𝓤 H 𝓜 (tables 𝓤 H 𝓜 𝓡 env)) code)
       (walk (fmOf 𝓤 H (W .laws) (tablesOf 𝓤 H 𝓜 (tables 𝓤 H 𝓜 𝓡 env))) (cited 𝓤 H callee 𝓜 𝓡 env called routine is known)))
