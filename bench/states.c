@@ -3,7 +3,7 @@
 #include <stdio.h>
 #include <stdlib.h>
 
-enum { OBJECTS = 16, DEPTH = 16, TIMERS = 16, BLOCKS_OF_16 = 32, LONG_TIME = 1000 };
+enum { BLOCKS_OF_16 = 32, LONG_TIME = 1000 };
 
 static const uint8_t payload[TRUNHOAC_MOST_PAYLOAD_BYTES] = {
     SIXTEEN_BYTES, SIXTEEN_BYTES, SIXTEEN_BYTES, SIXTEEN_BYTES
@@ -34,7 +34,7 @@ static void give(struct state *state, const uint8_t *record)
 static void start(struct state *state, uint8_t p)
 {
     uint8_t record[TRUNHOAC_RECORD_BYTES];
-    give(state, trunhoac_fill_start(record, p, 0, DEPTH));
+    give(state, trunhoac_fill_start(record, p, 0, TRUNHOAC_MOST_DEPTH));
 }
 
 static void make(struct state *state, uint8_t signal, uint8_t size)
@@ -85,13 +85,13 @@ void shift_chart_loaded(struct state *state, const struct chart *shift)
 
 void all_started(struct state *state)
 {
-    for (uint8_t p = 1; p <= OBJECTS; p++)
+    for (uint8_t p = 1; p <= TRUNHOAC_OBJECTS; p++)
         start(state, p);
 }
 
 void all_but_nine_started(struct state *state)
 {
-    for (uint8_t p = 1; p <= OBJECTS; p++)
+    for (uint8_t p = 1; p <= TRUNHOAC_OBJECTS; p++)
         if (p != 9)
             start(state, p);
 }
@@ -148,7 +148,7 @@ void event_and_one_subscriber(struct state *state)
 void event_and_sixteen_subscribers(struct state *state)
 {
     event_made(state);
-    for (uint8_t p = 1; p <= OBJECTS; p++)
+    for (uint8_t p = 1; p <= TRUNHOAC_OBJECTS; p++)
         subscribe(state, p);
 }
 
@@ -174,7 +174,7 @@ void one_timer_counting(struct state *state)
 static void sixteen_timers(struct state *state, uint16_t ticks)
 {
     all_started(state);
-    for (uint8_t timer = 0; timer < TIMERS; timer++)
+    for (uint8_t timer = 0; timer < TRUNHOAC_TIMERS; timer++)
         arm(state, timer, ticks);
 }
 
@@ -206,7 +206,7 @@ static void queued(struct state *state, int times)
     all_started(state);
     make(state, RETURNS, 16);
     for (int queued = 0; queued < times; queued++)
-        post(state, (uint8_t)(OBJECTS - queued % OBJECTS));
+        post(state, (uint8_t)(TRUNHOAC_OBJECTS - queued % TRUNHOAC_OBJECTS));
 }
 
 void queued_16_times(struct state *state)

@@ -13,7 +13,8 @@
  *     trunhoac_command writes to it.
  *
  * Nothing is kept between calls but the kernel, and that has no pointer in it:
- * it may be copied, stored and moved, and there may be any number of them.
+ * it may be copied, stored and moved, and there may be any number of them, each
+ * with its own areas and each called whenever its host likes.
  */
 #ifndef TRUNHOAC_H
 #define TRUNHOAC_H
@@ -45,6 +46,16 @@ enum {
     TRUNHOAC_MOST_CHART_BYTES = 5576,
     TRUNHOAC_MOST_PAYLOAD_BYTES = 64,
     TRUNHOAC_SLOT_BYTES = 16152
+};
+
+/* How many there are of each: objects are numbered from 1, their priority; timers and slots from 0. */
+enum {
+    TRUNHOAC_OBJECTS = 16,
+    TRUNHOAC_MOST_DEPTH = 16,
+    TRUNHOAC_TIMERS = 16,
+    TRUNHOAC_SLOTS = 4,
+    TRUNHOAC_FIRST_SIGNAL = 4,
+    TRUNHOAC_LAST_SIGNAL = 31
 };
 
 /* The commands. */
@@ -157,6 +168,12 @@ static inline struct trunhoac_handle trunhoac_handle_in(const uint8_t *reply)
     return handle;
 }
 
+/* Of NEXT: the timer whose event it is, or -1 where the event has a handle. */
+static inline int trunhoac_timer_in(const uint8_t *reply)
+{
+    return reply[TRUNHOAC_AT_VALUES] < 128 ? -1 : reply[TRUNHOAC_AT_VALUES] - 128;
+}
+
 /* 0 ignored, 1 internal, 2 a transition. */
 static inline uint8_t trunhoac_outcome(const uint8_t *reply)
 {
@@ -201,7 +218,8 @@ static inline const uint8_t *trunhoac_fill_new(uint8_t *record, uint8_t signal, 
     return record;
 }
 
-static inline const uint8_t *trunhoac_fill_post(uint8_t *record, struct trunhoac_handle event, uint8_t p, uint8_t margin)
+static inline const uint8_t *trunhoac_fill_post(uint8_t *record, struct trunhoac_handle event,
+                                                uint8_t p, uint8_t margin)
 {
     return trunhoac_fill(record, TRUNHOAC_POST, event.block, event.generation, p, margin);
 }

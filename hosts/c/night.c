@@ -11,8 +11,8 @@ enum { INFUSION_PUMP = 5, VENTILATOR = 9 };    /* objects */
 enum { NOTE = 6, READ_BACK = 8, READING = 9 }; /* signals */
 enum { SHIFT_CHART = 0, REMINDER = 0 };        /* a slot and a timer */
 
-static const char *const devices[] = {[INFUSION_PUMP] = "infusion pump", [VENTILATOR] = "ventilator"};
-
+static const char *const devices[TRUNHOAC_OBJECTS + 1] = {
+    [INFUSION_PUMP] = "infusion pump", [VENTILATOR] = "ventilator"};
 static const char *const actions[UINT8_MAX + 1] = {
     [10] = "switch on",              [11] = "open the shift log",    [12] = "close the shift log",
     [13] = "show the ward",          [15] = "begin the shift again", [21] = "light the ready lamp",

@@ -1,7 +1,7 @@
 /* Has a record answered, with the chart of a LOAD from a folder: chart0 to chart3. */
 #include "test.h"
 
-enum { SLOTS = 4, MOST_PATH = 1024 };
+enum { MOST_PATH = 1024 };
 
 FILE *open_in(const char *folder, const char *name)
 {
@@ -25,7 +25,7 @@ static void read_chart(const char *folder, uint8_t slot, struct chart *chart)
 const uint8_t *answer(const char *folder, const uint8_t *record, size_t length)
 {
     struct chart chart = {0};
-    if (length == TRUNHOAC_RECORD_BYTES && record[0] == TRUNHOAC_LOAD && record[1] < SLOTS)
+    if (length == TRUNHOAC_RECORD_BYTES && record[0] == TRUNHOAC_LOAD && record[1] < TRUNHOAC_SLOTS)
         read_chart(folder, record[1], &chart);
     return command(record, length, &chart);
 }

@@ -1,7 +1,7 @@
 /* What a command that is done has to write to an area, by document 01. */
 #include "test.h"
 
-enum { BLOCKS = 56, SLOTS = 4, MIDDLE = 32, LARGE = 48, PAYLOAD = 8 };
+enum { BLOCKS = 56, MIDDLE = 32, LARGE = 48, PAYLOAD = 8 };
 
 /* The blocks in order: 32 of 16 bytes, 16 of 32, 8 of 64. */
 size_t place_of(size_t block)
@@ -23,7 +23,7 @@ void write_payload(uint8_t *payloads, const uint8_t *record, const uint8_t *repl
 /* LOAD: the slot as the flattener fills it. */
 void write_table(uint8_t *tables, const uint8_t *record, const uint8_t *chart, size_t chart_length)
 {
-    if (record[1] < SLOTS)
+    if (record[1] < TRUNHOAC_SLOTS)
         chart_flatten(chart, chart_length, tables + (size_t)record[1] * TRUNHOAC_SLOT_BYTES, TRUNHOAC_SLOT_BYTES);
 }
 
