@@ -1,3 +1,2 @@
--- Walk: what the walks of the exported functions share. Parts: the part that READ hands back, found by its place and length.
-pub mod Parts
+-- Walk: what the walks of the exported functions share.
 pub mod Walk

@@ -1,2 +1,3 @@
--- Dispatch: what the kernel promises of any record.
+-- Dispatch: what the kernel promises of any record. Parts: the part that READ hands back, found by its place and length.
 pub mod Dispatch
+pub mod Parts

@@ -19,21 +19,7 @@ pub fn fresh() -> Kernel
     state::fresh()
 }
 
-// The part of the payload area that READ hands back: empty when refused, and for any other record.
-pub fn read_part<'a>(k: Kernel, record: &[u8], payloads: &'a [u8]) -> &'a [u8]
-    requires { ⌜ Good k ⌝ }
-    ensures { λ r. ⌜ now r ≡ partOf (stateOf k) (now («record» .entry)) (now (payloads .entry)) ⌝ }
-{
-    if record.len() != RECORD_BYTES {
-        return &payloads[0..0];
-    }
-    if record[0] != command::READ {
-        return &payloads[0..0];
-    }
-    payloads::records::read_part_of(k, record, payloads)
-}
-
-// Where that part begins in the payload area, and how long it is; 0 and 0 when refused, and for any other record.
+// Where in the payload area the part begins that READ hands back, and how long it is: 0 and 0 when refused, and for any other record.
 pub fn part_at(k: Kernel, record: &[u8], payloads: &[u8]) -> Part
     requires { ⌜ Good k ⌝ }
     ensures { λ r. ⌜ partAt (stateOf k) (now («record» .entry)) (now (payloads .entry)) ≡ (r .place, r .length) ⌝ }
@@ -46,6 +32,17 @@ pub fn part_at(k: Kernel, record: &[u8], payloads: &[u8]) -> Part
         return payloads::no_part();
     }
     payloads::records::read_at_of(k, record, payloads)
+}
+
+// That part: empty when refused, and for any other record.
+pub fn read_part<'a>(k: Kernel, record: &[u8], payloads: &'a [u8]) -> &'a [u8]
+    requires { ⌜ Good k ⌝ }
+    ensures { λ r. ⌜ now r ≡ partOf (stateOf k) (now («record» .entry)) (now (payloads .entry)) ⌝ }
+{
+    let part = part_at(k, record, payloads);
+    let at = part.place;
+    let e = at + part.length;
+    &payloads[at..e]
 }
 
 // Any record, with the chart that LOAD loads, and the areas.

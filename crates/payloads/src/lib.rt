@@ -6,7 +6,7 @@ ghost use mathlib.Core.Path.{_≡_};
 ghost use Prim.Native.Nat.{ℕ, _+_, _<_, _≤_};
 ghost use lib.ListN.{getD, length};
 ghost use Rattle.machine.specs.Events as machine;
-ghost use Rattle.machine.specs.Events.{newEvent, newIn, payloadOf, readAt, readPart, readTests};
+ghost use Rattle.machine.specs.Events.{newEvent, newIn, payloadOf, readAt, readTests};
 ghost use Rattle.machine.specs.Numbers.{placeOf, blocks, mostBytes, payloadBytes};
 ghost use Rattle.machine.specs.Reply.{lowest};
 ghost use Rattle.pool.specs.Cell.{handedOut};
@@ -131,24 +131,6 @@ pub fn read(k: Kernel, spoilt: bool, b: usize, generation: u8, payloads: &[u8]) 
     }
 }
 
-// The part of the payload area that READ hands back; empty when refused.
-pub fn read_part<'a>(
-    k: Kernel,
-    spoilt: bool,
-    b: usize,
-    generation: u8,
-    payloads: &'a [u8],
-) -> &'a [u8]
-    requires { ⌜ Good k ⌝ }
-    ensures { λ r. ⌜ now r ≡ readPart spoilt b generation (stateOf k) (now (payloads .entry)) ⌝ }
-{
-    let no = read_no(k, spoilt, b, generation, payloads);
-    if no != 0 {
-        return &payloads[0..0];
-    }
-    payload_in(k, b, payloads)
-}
-
 // The place and the length that a refused READ has.
 pub fn no_part() -> Part
     ensures { λ r. ⌜ (r .place ≡ 0) × (r .length ≡ 0) ⌝ }
@@ -159,7 +141,7 @@ pub fn no_part() -> Part
     }
 }
 
-// Where that part begins, and how long it is; 0 and 0 when refused.
+// Where the part that READ hands back begins, and how long it is; 0 and 0 when refused.
 pub fn read_at(k: Kernel, spoilt: bool, b: usize, generation: u8, payloads: &[u8]) -> Part
     requires { ⌜ Good k ⌝ }
     ensures { λ r. ⌜ readAt spoilt b generation (stateOf k) (now (payloads .entry)) ≡ (r .place, r .length) ⌝ }

@@ -3,7 +3,7 @@ ghost use mathlib.Core.List.{List};
 ghost use mathlib.Core.Path.{_≡_};
 ghost use Prim.Native.Nat.{ℕ, _+_, _≤_};
 ghost use lib.ListN.{getD, length};
-ghost use Rattle.machine.specs.Events.{readAt, readPart};
+ghost use Rattle.machine.specs.Events.{readAt};
 ghost use Rattle.machine.specs.Machine as machine;
 ghost use Rattle.machine.specs.Machine.{command};
 ghost use Rattle.machine.specs.Numbers.{recordBytes};
@@ -50,22 +50,7 @@ pub fn read_command(k: Kernel, record: &[u8], payloads: &[u8]) -> Answered
     )
 }
 
-// The part of the payload area that READ hands back.
-pub fn read_part_of<'a>(k: Kernel, record: &[u8], payloads: &'a [u8]) -> &'a [u8]
-    requires { ⌜ Good k ⌝ }
-    ensures { λ r. ⌜ now r ≡ readPart (machine.spoilt 2 (now («record» .entry))) (getD (now («record» .entry)) 1 0) (getD (now («record» .entry)) 2 0)
-        (stateOf k) (now (payloads .entry)) ⌝ }
-{
-    super::read_part(
-        k,
-        spoilt(record, 2),
-        arg(record, 1),
-        byte_at(record, 2),
-        payloads,
-    )
-}
-
-// Where that part begins, and how long it is.
+// Where the part that READ hands back begins, and how long it is.
 pub fn read_at_of(k: Kernel, record: &[u8], payloads: &[u8]) -> Part
     requires { ⌜ Good k ⌝ }
     ensures { λ r. ⌜ readAt (machine.spoilt 2 (now («record» .entry))) (getD (now («record» .entry)) 1 0) (getD (now («record» .entry)) 2 0)

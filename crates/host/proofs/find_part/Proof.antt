@@ -1,6 +1,6 @@
 use borrow.Author.Needs.{needs}
 use mathlib.Core.Path.{_∙_, ap, sym}
-use Rattle.host.proofs.Parts.{lies, part-lies}
+use Rattle.kernel.proofs.Parts.{lies, part-lies}
 use Rattle.host.proofs.find_part.Statement.{statement}
 use Rattle.host.proofs.find_part.Tie as tie
 
