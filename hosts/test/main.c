@@ -13,6 +13,7 @@ int main(int argc, char **argv)
     unsigned long of_cases = test_doc_cases(argv[2]);
     test_layout();
     test_areas();
+    test_edges();
     test_records();
     printf("replies compared: %lu of random traces, %lu of cases; %lu passed, %lu failed\n",
            of_traces, of_cases, score.passed, score.failed);

@@ -55,6 +55,7 @@ unsigned long test_vectors(const char *folder);
 unsigned long test_doc_cases(const char *folder);
 void test_layout(void);
 void test_areas(void);
+void test_edges(void);
 void test_records(void);
 
 #endif

@@ -1,0 +1,111 @@
+/*
+ * Everything that is lent lies between pages that nobody may touch, flush with the one behind it and then with the one
+ * before it: a read or a write outside a length ends the test.
+ */
+#define _DEFAULT_SOURCE /* for anonymous mappings */
+
+#include "test.h"
+
+#include <sys/mman.h>
+#include <unistd.h>
+
+enum side { AT_THE_END, AT_THE_START };
+
+enum { LAST_OBJECT = TRUNHOAC_OBJECTS, LAST_LARGE_BLOCK = 55, MOVES = 6 };
+
+/* Two states; signal 6 leads from the first to the second. */
+static const uint8_t two_states[] = {
+    3, 1, 0, 0, 0, 0, 0, 0, 1, 0, 0, 0, 0, 0, 0, 0, 1, 0, 0, 0, 0, 0, 0, 0, 2, 1, MOVES, 1, 2, 0, 0, 0,
+};
+
+static struct {
+    struct trunhoac_kernel *kernel;
+    uint8_t *record, *chart, *payloads, *tables, *log, *reply, *slot;
+    size_t *place, *length;
+} lent;
+
+static bool is_lent;
+
+static void *lend(size_t length, enum side side)
+{
+    size_t page = (size_t)sysconf(_SC_PAGESIZE);
+    size_t inner = (length + page - 1) / page * page;
+    uint8_t *whole = mmap(NULL, inner + 2 * page, PROT_NONE, MAP_PRIVATE | MAP_ANONYMOUS, -1, 0);
+    if (whole == MAP_FAILED || mprotect(whole + page, inner, PROT_READ | PROT_WRITE) != 0) {
+        is_lent = false;
+        return NULL;
+    }
+    return whole + page + (side == AT_THE_END ? inner - length : 0);
+}
+
+static void lend_all(enum side side)
+{
+    is_lent = true;
+    lent.kernel = lend(sizeof *lent.kernel, side);
+    lent.record = lend(TRUNHOAC_RECORD_BYTES, side);
+    lent.chart = lend(sizeof two_states, side);
+    lent.payloads = lend(TRUNHOAC_PAYLOAD_AREA, side);
+    lent.tables = lend(TRUNHOAC_TABLE_AREA, side);
+    lent.log = lend(TRUNHOAC_LOG_AREA, side);
+    lent.reply = lend(TRUNHOAC_REPLY_BYTES, side);
+    lent.slot = lend(TRUNHOAC_SLOT_BYTES, side);
+    lent.place = lend(sizeof *lent.place, side);
+    lent.length = lend(sizeof *lent.length, side);
+}
+
+static void done(const uint8_t *filled)
+{
+    trunhoac_command(lent.kernel, filled, TRUNHOAC_RECORD_BYTES, lent.chart, sizeof two_states,
+                     lent.payloads, TRUNHOAC_PAYLOAD_AREA, lent.tables, TRUNHOAC_TABLE_AREA,
+                     lent.log, TRUNHOAC_LOG_AREA, lent.reply);
+    expect(lent.reply[TRUNHOAC_AT_NUMBER] == TRUNHOAC_DONE, "the command is done");
+}
+
+/* The first and the last of what there is: slots, blocks, objects, places of a mailbox, lines of the log. */
+static void use_edges(void)
+{
+    uint8_t *record = lent.record;
+    uint8_t payload[TRUNHOAC_MOST_PAYLOAD_BYTES] = {0};
+    struct trunhoac_handle first = {0, 0}, last = {LAST_LARGE_BLOCK, 0};
+
+    trunhoac_fresh(lent.kernel);
+    done(trunhoac_fill_load(record, 0));
+    done(trunhoac_fill_load(record, TRUNHOAC_SLOTS - 1));
+    for (uint8_t p = 1; p <= LAST_OBJECT; p++)
+        done(trunhoac_fill_start(record, p, TRUNHOAC_SLOTS - 1, TRUNHOAC_MOST_DEPTH));
+    done(trunhoac_fill_new(record, MOVES, payload, 16));
+    for (int block = 48; block <= LAST_LARGE_BLOCK; block++)
+        done(trunhoac_fill_new(record, TRUNHOAC_LAST_SIGNAL, payload, sizeof payload));
+    for (int place = 0; place < TRUNHOAC_MOST_DEPTH; place++)
+        for (uint8_t p = 1; p <= LAST_OBJECT; p++)
+            done(trunhoac_fill_post(record, place == 0 ? first : last, p, 0));
+    done(trunhoac_fill_next(record));
+    done(trunhoac_fill_end(record));
+    done(trunhoac_fill_read(record, last));
+    trunhoac_read(lent.kernel, record, TRUNHOAC_RECORD_BYTES, lent.payloads, TRUNHOAC_PAYLOAD_AREA,
+                  lent.place, lent.length);
+    expect(*lent.place + *lent.length == TRUNHOAC_PAYLOAD_AREA, "the last block ends where its area does");
+    done(trunhoac_fill_drain(record, UINT8_MAX));
+    expect(lent.reply[TRUNHOAC_AT_VALUES] == UINT8_MAX, "the log is full");
+}
+
+static void test_side(enum side side)
+{
+    lend_all(side);
+    expect(is_lent, "the memory is there");
+    if (!is_lent)
+        return;
+    memcpy(lent.chart, two_states, sizeof two_states);
+    use_edges();
+    expect(chart_check(lent.chart, sizeof two_states) == 0, "the chart is good");
+    expect(chart_flatten(lent.chart, sizeof two_states, lent.slot, TRUNHOAC_SLOT_BYTES) == 0, "and is flattened");
+    expect(memcmp(lent.slot, lent.tables, TRUNHOAC_SLOT_BYTES) == 0, "as the kernel flattens it");
+}
+
+void test_edges(void)
+{
+    now_at("edges, flush with the page behind", 0);
+    test_side(AT_THE_END);
+    now_at("edges, flush with the page before", 0);
+    test_side(AT_THE_START);
+}
