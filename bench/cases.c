@@ -1,6 +1,6 @@
 #include "cases.h"
 
-enum { COUNT = TRUNHOAC_AT_COUNT, VALUES = TRUNHOAC_AT_VALUES, PAYLOAD = 8 };
+enum { COUNT = TRUNHOAC_AT_COUNT, VALUES = TRUNHOAC_AT_VALUES, PAYLOAD = TRUNHOAC_HEAD_BYTES };
 
 /* The replies are written by hand from document 01: DONE is 0, and so are the bytes that are not named. */
 const struct bench_case cases[] = {

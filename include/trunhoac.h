@@ -34,6 +34,7 @@ struct trunhoac_kernel {
 
 /* The lengths of a record, of a reply and of the three areas that the host lends. */
 enum {
+    TRUNHOAC_HEAD_BYTES = 8, /* of a record: the command and its arguments; the payload follows */
     TRUNHOAC_RECORD_BYTES = 72,
     TRUNHOAC_REPLY_BYTES = 24,
     TRUNHOAC_PAYLOAD_AREA = 1536,
@@ -53,6 +54,7 @@ enum {
     TRUNHOAC_OBJECTS = 16,
     TRUNHOAC_MOST_DEPTH = 16,
     TRUNHOAC_TIMERS = 16,
+    TRUNHOAC_FIRST_TIMER = 128, /* how the value of a NEXT tells timer 0 */
     TRUNHOAC_SLOTS = 4,
     TRUNHOAC_FIRST_SIGNAL = 4,
     TRUNHOAC_LAST_SIGNAL = 31
@@ -171,7 +173,8 @@ static inline struct trunhoac_handle trunhoac_handle_in(const uint8_t *reply)
 /* Of NEXT: the timer whose event it is, or -1 where the event has a handle. */
 static inline int trunhoac_timer_in(const uint8_t *reply)
 {
-    return reply[TRUNHOAC_AT_VALUES] < 128 ? -1 : reply[TRUNHOAC_AT_VALUES] - 128;
+    int value = reply[TRUNHOAC_AT_VALUES];
+    return value < TRUNHOAC_FIRST_TIMER ? -1 : value - TRUNHOAC_FIRST_TIMER;
 }
 
 /* 0 ignored, 1 internal, 2 a transition. */
@@ -214,7 +217,7 @@ static inline const uint8_t *trunhoac_fill_new(uint8_t *record, uint8_t signal, 
 {
     trunhoac_fill(record, TRUNHOAC_NEW, signal, size, 0, 0);
     if (size > 0 && size <= TRUNHOAC_MOST_PAYLOAD_BYTES)
-        memcpy(record + 8, payload, size);
+        memcpy(record + TRUNHOAC_HEAD_BYTES, payload, size);
     return record;
 }
 

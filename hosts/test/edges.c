@@ -13,11 +13,6 @@ enum side { AT_THE_END, AT_THE_START };
 
 enum { LAST_OBJECT = TRUNHOAC_OBJECTS, LAST_LARGE_BLOCK = 55, MOVES = 6 };
 
-/* Two states; signal 6 leads from the first to the second. */
-static const uint8_t two_states[] = {
-    3, 1, 0, 0, 0, 0, 0, 0, 1, 0, 0, 0, 0, 0, 0, 0, 1, 0, 0, 0, 0, 0, 0, 0, 2, 1, MOVES, 1, 2, 0, 0, 0,
-};
-
 static struct {
     struct trunhoac_kernel *kernel;
     uint8_t *record, *chart, *payloads, *tables, *log, *reply, *slot;
@@ -43,7 +38,7 @@ static void lend_all(enum side side)
     is_lent = true;
     lent.kernel = lend(sizeof *lent.kernel, side);
     lent.record = lend(TRUNHOAC_RECORD_BYTES, side);
-    lent.chart = lend(sizeof two_states, side);
+    lent.chart = lend(two_states.length, side);
     lent.payloads = lend(TRUNHOAC_PAYLOAD_AREA, side);
     lent.tables = lend(TRUNHOAC_TABLE_AREA, side);
     lent.log = lend(TRUNHOAC_LOG_AREA, side);
@@ -55,7 +50,7 @@ static void lend_all(enum side side)
 
 static void done(const uint8_t *filled)
 {
-    trunhoac_command(lent.kernel, filled, TRUNHOAC_RECORD_BYTES, lent.chart, sizeof two_states,
+    trunhoac_command(lent.kernel, filled, TRUNHOAC_RECORD_BYTES, lent.chart, two_states.length,
                      lent.payloads, TRUNHOAC_PAYLOAD_AREA, lent.tables, TRUNHOAC_TABLE_AREA,
                      lent.log, TRUNHOAC_LOG_AREA, lent.reply);
     expect(lent.reply[TRUNHOAC_AT_NUMBER] == TRUNHOAC_DONE, "the command is done");
@@ -95,10 +90,10 @@ static void test_side(enum side side)
     expect(is_lent, "the memory is there");
     if (!is_lent)
         return;
-    memcpy(lent.chart, two_states, sizeof two_states);
+    memcpy(lent.chart, two_states.bytes, two_states.length);
     use_edges();
-    expect(chart_check(lent.chart, sizeof two_states) == 0, "the chart is good");
-    expect(chart_flatten(lent.chart, sizeof two_states, lent.slot, TRUNHOAC_SLOT_BYTES) == 0, "and is flattened");
+    expect(chart_check(lent.chart, two_states.length) == 0, "the chart is good");
+    expect(chart_flatten(lent.chart, two_states.length, lent.slot, TRUNHOAC_SLOT_BYTES) == 0, "and is flattened");
     expect(memcmp(lent.slot, lent.tables, TRUNHOAC_SLOT_BYTES) == 0, "as the kernel flattens it");
 }
 

@@ -35,12 +35,6 @@ struct kernel {
 _Static_assert(sizeof(struct kernel) == sizeof(struct trunhoac_kernel), "the header gives the kernel its size");
 _Static_assert(_Alignof(struct kernel) == _Alignof(struct trunhoac_kernel), "and its alignment");
 
-/* Two states; signal 6 leads from the first to the second. */
-static const struct chart chart = {
-    .length = 32,
-    .bytes = {3, 1, 0, 0, 0, 0, 0, 0, 1, 0, 0, 0, 0, 0, 0, 0, 1, 0, 0, 0, 0, 0, 0, 0, 2, 1, 6, 1, 2, 0, 0, 0},
-};
-
 static const struct trunhoac_handle first_block = {0, 0};
 static const struct trunhoac_handle last_block = {BLOCKS - 1, 0};
 
@@ -54,7 +48,7 @@ static void take_kernel(void)
 
 static void done(const uint8_t *filled)
 {
-    expect(command(filled, TRUNHOAC_RECORD_BYTES, &chart)[0] == TRUNHOAC_DONE, "the command is done");
+    expect(command(filled, TRUNHOAC_RECORD_BYTES, &two_states)[0] == TRUNHOAC_DONE, "the command is done");
     take_kernel();
 }
 

@@ -3,6 +3,11 @@
 
 enum { MOST_PATH = 1024 };
 
+const struct chart two_states = {
+    .length = 32,
+    .bytes = {3, 1, 0, 0, 0, 0, 0, 0, 1, 0, 0, 0, 0, 0, 0, 0, 1, 0, 0, 0, 0, 0, 0, 0, 2, 1, 6, 1, 2, 0, 0, 0},
+};
+
 FILE *open_in(const char *folder, const char *name)
 {
     char path[MOST_PATH];

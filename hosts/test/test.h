@@ -36,7 +36,8 @@ void write_payload(uint8_t *payloads, const uint8_t *record, const uint8_t *repl
 void write_table(uint8_t *tables, const uint8_t *record, const uint8_t *chart, size_t chart_length);
 void write_log(uint8_t *log, struct trunhoac_kernel kernel, uint8_t *tables, size_t steps);
 
-/* player.c: has a record answered, with the chart of a LOAD from a folder. */
+/* player.c: has a record answered, with the chart of a LOAD from a folder; and a chart that needs none. */
+extern const struct chart two_states; /* signal 6 leads from the first to the second */
 const uint8_t *answer(const char *folder, const uint8_t *record, size_t length);
 FILE *open_in(const char *folder, const char *name);
 

@@ -7,12 +7,12 @@ use lib.ListN.{drop, take}
 use Rattle.machine.specs.Machine.{partAt, partOf}
 use Rattle.machine.specs.Reply.{Answer, Areas}
 use Rattle.machine.specs.State.{State}
-use Rattle.state.specs.View.{stateOf}
+use Rattle.state.specs.View.{answered}
 use Rattle.state.specs.declared.Kernel.{Kernel}
 
--- After a command: the kernel, the reply and the areas.
+-- After a command: the kernel and the reply, each where the host keeps it, and the areas.
 abbrev pub told : Kernel → List ℕ → Areas → Answer
-told k reply z = record { state = stateOf k; reply = reply; areas = z }
+told k reply = answered (record { kernel = k; reply = reply })
 
 -- Place and length are those of the part that READ hands back; it lies within the payload area.
 abbrev pub Found : State → List ℕ → List ℕ → ℕ → ℕ → Type 0

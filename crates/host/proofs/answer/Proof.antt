@@ -1,10 +1,8 @@
 use borrow.Author.Needs.{needs}
-use Rattle.state.specs.View.{answered}
 use Rattle.host.proofs.answer.Statement.{statement}
 use Rattle.host.proofs.answer.Tie as tie
 
 returns : tie.Need-returns
-unfolding answered
 returns c = search needs
 
 pub answer-spec : {M : Type 1} → statement M
