@@ -7,14 +7,14 @@ use mathlib.Core.Path.{_≡_, refl, sym, ap, _∙_}
 use Prim.Native.Nat.{ℕ, zero, suc, _+_, _*_, _%_, _≤_, _<_}
 use native.Mathlib.Nat.{le-refl}
 use native.Mathlib.Omega.{arith}
-use borrow.Author.Tests.{eq-eqb, ne-eqb, eqb-true, eqb-false, leb-true, leb-false, ltb-true}
+use borrow.Author.Tests.{eq-eqb, ne-eqb, eqb-true, eqb-false, le-leb, leb-true, leb-false, ltb-true, not-true}
 use lib.Dec.{eqb, leb, ltb}
 use lib.ListN.{length, getD, length-append}
 use Rattle.ground.specs.Bools.{no-yes, and-left, and-right, or-right, cond-pick, cond-all, cond-else, eq-or}
 use Rattle.ground.specs.Every.{every-at}
 use Rattle.ground.specs.Range.{every}
 use Rattle.ground.specs.Search.{first-is}
-use Rattle.chart.specs.Chart.{classOf, lengthOk, formsOk, treeOk, rowsOk, states, records, formOk, stateOk, rowOk, among, isSignal, path, outward, parent, has, byte, rowFor, recordAt, topTarget, topAction}
+use Rattle.chart.specs.Chart.{classOf, lengthOk, formsOk, treeOk, rowsOk, states, records, formOk, parentOk, stateOk, rowOk, among, isSignal, path, outward, parent, has, byte, rowFor, recordAt, topTarget, topAction}
 use Rattle.chart.specs.Held.{formAt, kindAt, stateAt, rowGood, hasRow, up, within, settled, settling}
 use Rattle.chart.specs.Step.{Answer, upTo, leave, enter, listed, firstOf, source, limit, moved, step, start}
 use Rattle.chart.proofs.Laws.{path-top, path-cons, level-same}
@@ -191,6 +191,10 @@ pub record State (d : List ℕ) (s : ℕ) : Type 0 where
 pub state-of : (d : List ℕ) (s : ℕ) → among (states d) s ≡ true → State d s
 state-of d s e = let h = among-of (states d) s e in record { low = h .0; high = h .1 }
 
+pub is-state : (d : List ℕ) (s : ℕ) → State d s → among (states d) s ≡ true
+unfolding among
+is-state d s h = rw (le-leb 1 s (h .low), le-leb s (states d) (h .high))
+
 module _ (d : List ℕ) (acc : Accepted d) where
   state-ok : (s : ℕ) → State d s → stateAt (states d) d s ≡ true
   unfolding treeOk
@@ -206,13 +210,13 @@ module _ (d : List ℕ) (acc : Accepted d) where
   unfolding stateOk
   state-up s h =
       eqb-true (up levels d s) 0
-      (level-same d levels s ∙ and-left (leb (length (path (suc levels) d s)) levels) _ (and-right (ltb (getD (recordAt d s) 1 0) s) _ (state-ok s h)))
+      (level-same d levels s ∙ and-left (leb (length (path (suc levels) d s)) levels) _ (and-right (parentOk d s (getD (recordAt d s) 1 0)) _ (state-ok s h)))
 
   initial-in : (s : ℕ) → State d s → (byte d s 4 ≡ 0 → ⊥) → within (states d) d s (byte d s 4) ≡ true
   unfolding stateOk byte
   initial-in s h n =
       cond-else (eqb (getD (recordAt d s) 4 0) 0) _ _ (ne-eqb _ _ n)
-      (and-right (leb (length (path (suc levels) d s)) levels) _ (and-right (ltb (getD (recordAt d s) 1 0) s) _ (state-ok s h)))
+      (and-right (leb (length (path (suc levels) d s)) levels) _ (and-right (parentOk d s (getD (recordAt d s) 1 0)) _ (state-ok s h)))
 
   initial-state : (s : ℕ) → State d s → (byte d s 4 ≡ 0 → ⊥) → State d (byte d s 4)
   initial-state s h n = state-of d (byte d s 4) (and-left (among (states d) (byte d s 4)) _ (initial-in s h n))
@@ -252,7 +256,7 @@ module _ (d : List ℕ) (acc : Accepted d) where
       (omega (arith, w .0, w .1)))
       (eq-or (byte d s 4) 0)
 
-  settled-state : (k s : ℕ) → State d s → State d (settled k d s)
+  pub settled-state : (k s : ℕ) → State d s → State d (settled k d s)
   settled-state zero s h = unfold settled in h
   settled-state (suc k) s h =
       ⊎-elim
@@ -260,9 +264,20 @@ module _ (d : List ℕ) (acc : Accepted d) where
       (λ n. rw (settled-suc d k s n) (settled-state k (byte d s 4) (initial-state s h n)))
       (eq-or (byte d s 4) 0)
 
-  pub parent-low : (s : ℕ) → State d s → parent d s < s
+  -- what contains a state is lower, and has an initial target if it is a state
+  parent-ok : (s : ℕ) → State d s → parentOk d s (parent d s) ≡ true
   unfolding stateOk byte parent
-  parent-low s h = rw (ne-eqb s 0 (not-top s h)) (ltb-true (getD (recordAt d s) 1 0) s (and-left (ltb (getD (recordAt d s) 1 0) s) _ (state-ok s h)))
+  parent-ok s h = rw (ne-eqb s 0 (not-top s h)) (and-left (parentOk d s (getD (recordAt d s) 1 0)) _ (state-ok s h))
+
+  pub parent-low : (s : ℕ) → State d s → parent d s < s
+  unfolding parentOk
+  parent-low s h = ltb-true (parent d s) s (and-left (ltb (parent d s) s) _ (parent-ok s h))
+
+  pub parent-starts : (s : ℕ) → State d s → (parent d s ≡ 0 → ⊥) → byte d (parent d s) 4 ≡ 0 → ⊥
+  unfolding parentOk
+  parent-starts s h n =
+      let p = parent d s in
+      eqb-false (byte d p 4) 0 (not-true (eqb (byte d p 4) 0) (rw (ne-eqb p 0 n) at (and-right (ltb p s) _ (parent-ok s h))))
 
   -- ## Rows
   kind-go : (a b : Bool) → _≡_ {A = ℕ} (cond a 3 (cond b 1 2)) 2 → b ≡ false
@@ -353,7 +368,7 @@ module _ (d : List ℕ) (acc : Accepted d) where
   moved-outcome x s t a = rw (settle-is d levels t _) (omega arith)
 
   -- what holds of each kind of answer holds of a step
-  step-cases : (P : Answer → Type 0) (x g : ℕ)
+  pub step-cases : (P : Answer → Type 0) (x g : ℕ)
       → P (record { next = x; outcome = 0; acts = [] })
       → ((i : ℕ) → P (record { next = x; outcome = 1; acts = listed (byte d i 5) }))
       → ((s t a : ℕ) → has s (outward d x) ≡ true → State d t → P (moved d x s t a))

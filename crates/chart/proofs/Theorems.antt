@@ -3,14 +3,16 @@ use mathlib.Core.Bool.{true}
 use mathlib.Core.List.{List}
 use mathlib.Core.Path.{_≡_}
 use Prim.Native.Nat.{ℕ, _+_, _≤_}
-use borrow.Author.Tests.{eq-eqb, le-leb}
+use borrow.Author.Tests.{eq-eqb}
+use lib.Dec.{ltb}
 use lib.ListN.{length}
-use Rattle.chart.specs.Chart.{classOf, among, initial, isSignal, outward, path, states}
+use Rattle.chart.specs.Chart.{ParentsStart, classOf, among, initial, isSignal, leaf, outward, parent, parentOk, path, states}
 use Rattle.chart.specs.Flat.{Agrees, answerOf, flattened, place, rowAt, rowOf, slotBytes, sound}
 use Rattle.chart.specs.Numbers.{levels, mostActions, slotSize}
 use Rattle.chart.specs.Step.{settle, start, step}
-use Rattle.chart.proofs.Accepted.{State, accepted, path-longer, settled-ends, start-bound, start-state, state-of, state-up, step-bound, step-state}
+use Rattle.chart.proofs.Accepted.{accepted, is-state, path-longer, settled-ends, start-bound, start-state, state-of, state-up, step-bound, step-state}
 use Rattle.chart.proofs.Agree.{agrees, slot-row, start-sound, step-agrees, step-sound}
+use Rattle.chart.proofs.Leaves
 use Rattle.chart.proofs.Rows.{slot-length, slot-start}
 use Rattle.chart.proofs.Steps.{settle-is, settle-longer}
 -- The cases of document 01 marked *, and an accepted chart with a step of exactly 18 actions.
@@ -18,10 +20,6 @@ pub use Rattle.chart.specs.Shift.{shift-stated}
 pub use Rattle.chart.specs.Deep.{deep-reaches}
 
 module _ (d : List ℕ) (good : classOf d ≡ 0) where
-  is-state : (s : ℕ) → State d s → among (states d) s ≡ true
-  unfolding among
-  is-state s h = rw (le-leb 1 s (h .low), le-leb s (states d) (h .high))
-
   -- Flat and nested give the same outcomes, actions and rests, at the start and over any list of signals.
   pub agreement : Agrees d (slotBytes d)
   agreement = agrees d good
@@ -32,7 +30,7 @@ module _ (d : List ℕ) (good : classOf d ≡ 0) where
 
   -- It leads to a state of the chart.
   pub start-leads : among (states d) (start d .next) ≡ true
-  start-leads = is-state (start d .next) (start-state d (accepted d good))
+  start-leads = is-state d (start d .next) (start-state d (accepted d good))
 
   -- Its row stands first in the slot.
   pub start-row : rowAt (slotBytes d) 0 ≡ rowOf (start d)
@@ -49,7 +47,7 @@ module _ (d : List ℕ) (good : classOf d ≡ 0) where
 
     -- It leads to a state of the chart.
     pub step-leads : (g : ℕ) → among (states d) (step d s g .next) ≡ true
-    step-leads g = is-state (step d s g .next) (step-state d (accepted d good) s g (state-of d s h))
+    step-leads g = is-state d (step d s g .next) (step-state d (accepted d good) s g (state-of d s h))
 
     -- Its row stands at its place in the slot.
     pub step-row : (g : ℕ) → isSignal g ≡ true → rowAt (slotBytes d) (place s g) ≡ rowOf (step d s g)
@@ -75,6 +73,18 @@ module _ (d : List ℕ) (good : classOf d ≡ 0) where
     pub settle-whole : (k : ℕ) (l : List ℕ) → settle (k + levels) d s l ≡ settle levels d s l
     settle-whole k l = settle-longer d k levels s l (settled-ends d (accepted d good) s (state-of d s h))
 
+  -- A state that is any state's parent has an initial target.
+  pub parents-start : ParentsStart d
+  parents-start = Leaves.parents-start d good
+
+  -- A start leads to a leaf,
+  pub start-leaf : leaf d (start d .next) ≡ true
+  start-leaf = Leaves.start-leaf d good
+
+  -- and so does a step from a leaf.
+  pub step-leaf : (s g : ℕ) → leaf d s ≡ true → leaf d (step d s g .next) ≡ true
+  step-leaf s g h = Leaves.step-leaf d good s g h
+
   -- An accepted chart and a slot of the right length: the flattener answers 0 and fills the slot.
   pub flattens : (t : List ℕ) → length t ≡ slotSize → flattened d t ≡ (0, slotBytes d)
   unfolding flattened
@@ -83,3 +93,7 @@ module _ (d : List ℕ) (good : classOf d ≡ 0) where
 -- A slot's bytes are as many as a slot has, whatever the chart.
 pub slot-size : (d : List ℕ) → length (slotBytes d) ≡ slotSize
 slot-size d = slot-length d
+
+-- The check asks no more: where each state that is any state's parent has an initial target, a parent has only to be lower.
+pub asks-no-more : (d : List ℕ) → ParentsStart d → (s : ℕ) → among (states d) s ≡ true → parentOk d s (parent d s) ≡ ltb (parent d s) s
+asks-no-more d starts s h = Leaves.asks-no-more d starts s (state-of d s h)

@@ -1,6 +1,7 @@
 -- Document 01, "Charts": the records, the states and rows that they are, and the class of a chart's fault.
-use mathlib.Core.Bool.{Bool, false, cond, not, _&&_, _||_}
+use mathlib.Core.Bool.{Bool, true, false, cond, not, _&&_, _||_}
 use mathlib.Core.List.{List, [], _∷_}
+use mathlib.Core.Path.{_≡_}
 use Prim.Native.Nat.{ℕ, zero, suc, _+_, _*_, _-_, _/_, _%_}
 use lib.Dec.{ltb, leb, eqb}
 use lib.ListN.{length, getD, drop}
@@ -79,10 +80,14 @@ formOk k r = eqb (getD r 0 0) k && blank r (cond (eqb k 3) 3 6) 8
 unfoldable pub formsOk : ℕ → List ℕ → Bool
 formsOk n d = every (λ i. formOk (cond (eqb i 0) 3 (cond (leb i n) 1 2)) (recordAt d i)) 0 (records d) && among mostStates n
 
--- Class 3: a state's parent is lower, it lies at most 6 deep, an initial target is a proper descendant, an initial action has a target.
+-- Class 3: a state's parent p is lower and, if it is a state, has an initial target (document 02, request 1);
+unfoldable pub parentOk : List ℕ → ℕ → ℕ → Bool
+parentOk d s p = ltb p s && (eqb p 0 || not (eqb (initial d p) 0))
+
+-- a state lies at most 6 deep, an initial target is a proper descendant, an initial action has a target.
 unfoldable pub stateOk : ℕ → List ℕ → ℕ → List ℕ → Bool
 stateOk n d s r =
-    ltb (getD r 1 0) s
+    parentOk d s (getD r 1 0)
     && (leb (length (path (suc levels) d s)) levels
     && cond (eqb (getD r 4 0) 0) (eqb (getD r 5 0) 0)
     (among n (getD r 4 0) && has s (outward d (parent d (getD r 4 0)))))
@@ -111,3 +116,11 @@ classOf d =
     (cond (formsOk (states d) d)
     (cond (treeOk (states d) d)
     (cond (rowsOk (states d) d) 0 4) 3) 2) 1
+
+-- s is a leaf: a state that is no state's parent.
+unfoldable pub leaf : List ℕ → ℕ → Bool
+leaf d s = among (states d) s && every (λ t. not (eqb (parent d t) s)) 1 (states d + 1)
+
+-- "A state that is any other state's parent must have an initial target": one without is a leaf.
+abbrev pub ParentsStart : List ℕ → Type 0
+ParentsStart d = (s : ℕ) → among (states d) s ≡ true → initial d s ≡ 0 → leaf d s ≡ true

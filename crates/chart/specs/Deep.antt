@@ -31,5 +31,5 @@ pub record Reaches : Type 0 where
   pub count : length (step deep 6 4 .acts) ≡ mostActions
 
 pub deep-reaches : Reaches
-unfolding deep Range.firstFrom Range.everyFrom Chart.byte Chart.parent Chart.states Chart.rowFor Chart.path Chart.has Chart.lengthOk Chart.among Chart.isSignal Bytes.blank Bytes.padded Chart.formOk Chart.formsOk Chart.stateOk Chart.treeOk Chart.rowOk Chart.rowsOk Chart.classOf Step.listed Step.upTo Step.leave Step.enter Step.firstOf Step.limit Step.settle Step.moved Step.step
+unfolding deep Range.firstFrom Range.everyFrom Chart.byte Chart.parent Chart.states Chart.rowFor Chart.path Chart.has Chart.lengthOk Chart.among Chart.isSignal Bytes.blank Bytes.padded Chart.formOk Chart.formsOk Chart.parentOk Chart.stateOk Chart.treeOk Chart.rowOk Chart.rowsOk Chart.classOf Step.listed Step.upTo Step.leave Step.enter Step.firstOf Step.limit Step.settle Step.moved Step.step
 deep-reaches = record { good = refl; actions = refl; count = refl }

@@ -63,5 +63,5 @@ pub record Stated : Type 0 where
   pub row : rowAt (slotBytes shift) 2136 ≡ 5 ∷ 2 ∷ 3 ∷ 42 ∷ 38 ∷ 51 ∷ replicate 18 0
 
 pub shift-stated : Stated
-unfolding shift cases was given Range.firstFrom Range.everyFrom Chart.byte Chart.parent Chart.states Chart.rowFor Chart.path Chart.has Chart.lengthOk Chart.among Chart.isSignal Bytes.blank Bytes.padded Chart.formOk Chart.formsOk Chart.stateOk Chart.treeOk Chart.rowOk Chart.rowsOk Chart.classOf Step.listed Step.upTo Step.leave Step.enter Step.firstOf Step.limit Step.settle Step.moved Step.step Step.start Flat.rowOf Flat.rowNo Flat.rowsFrom Flat.slotBytes Flat.place
+unfolding shift cases was given Range.firstFrom Range.everyFrom Chart.byte Chart.parent Chart.states Chart.rowFor Chart.path Chart.has Chart.lengthOk Chart.among Chart.isSignal Bytes.blank Bytes.padded Chart.formOk Chart.formsOk Chart.parentOk Chart.stateOk Chart.treeOk Chart.rowOk Chart.rowsOk Chart.classOf Step.listed Step.upTo Step.leave Step.enter Step.firstOf Step.limit Step.settle Step.moved Step.step Step.start Flat.rowOf Flat.rowNo Flat.rowsFrom Flat.slotBytes Flat.place
 shift-stated = record { good = refl; answers = refl; begins = refl; row = refl }

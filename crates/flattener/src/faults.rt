@@ -3,9 +3,10 @@ ghost use mathlib.Core.Path.{_≡_};
 ghost use Prim.Native.Nat.{suc, _+_, _*_, _≤_};
 ghost use lib.Dec.{leb};
 ghost use lib.ListN.{length};
-ghost use Rattle.chart.specs.Chart.{formOk, formsOk, key, lengthOk, path, rowOk, rowsOk, stateOk, treeOk};
+ghost use Rattle.chart.specs.Chart.{formOk, formsOk, key, lengthOk, parentOk, path, rowOk, rowsOk, stateOk, treeOk};
 ghost use Rattle.chart.specs.Held.{kindAt, targetOk, within};
 ghost use Rattle.chart.specs.Numbers.{levels, mostStates};
+use chart::read::INITIAL;
 use chart::read::LEVELS;
 use chart::read::MOST_STATES;
 use chart::read::contains;
@@ -13,6 +14,7 @@ use chart::read::field;
 use chart::read::is_among;
 use chart::read::is_signal;
 use chart::read::parent_of;
+use chart::read::state_field;
 use ground::blank;
 use ground::wide;
 use numbers::LONGEST_CHART;
@@ -77,6 +79,19 @@ pub fn forms_ok(chart: &[u8], n: usize) -> bool
     n <= MOST_STATES
 }
 
+// Whether p is lower than s and, if it is a state, has an initial target.
+fn parent_ok(chart: &[u8], s: u8, p: u8) -> bool
+    ensures { λ r. ⌜ r ≡ parentOk (now (chart .entry)) s p ⌝ }
+{
+    if s <= p {
+        return false;
+    }
+    if p == 0 {
+        return true;
+    }
+    state_field(chart, p, INITIAL) != 0
+}
+
 // Whether s lies at most six levels deep.
 fn level_ok(chart: &[u8], s: u8) -> bool
     ensures { λ r. ⌜ r ≡ leb (length (path (suc levels) (now (chart .entry)) s)) levels ⌝ }
@@ -105,7 +120,7 @@ fn state_ok(chart: &[u8], n: usize, s: u8, part: &[u8]) -> bool
     requires { ⌜ 8 ≤ length (now part) ⌝ }
     ensures { λ r. ⌜ r ≡ stateOk n (now (chart .entry)) s (now (part .entry)) ⌝ }
 {
-    if s <= part[1] {
+    if !parent_ok(chart, s, part[1]) {
         return false;
     }
     if !level_ok(chart, s) {

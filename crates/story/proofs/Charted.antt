@@ -1,4 +1,4 @@
--- Tables that hold the charts of their slots, and objects that rest in states of theirs: what START and NEXT read, and that steps keep it.
+-- Tables that hold the charts of their slots, and objects that rest in leaves of theirs: what START and NEXT read, and that steps keep it.
 use mathlib.Core.Bool.{true}
 use mathlib.Core.List.{List, [], _∷_}
 use mathlib.Core.Path.{_≡_, refl, sym, ap, _∙_}
@@ -11,8 +11,9 @@ use lib.Seq.{take-take, drop-drop}
 use Rattle.ground.specs.Lists.{set-all}
 use Rattle.chart.proofs.Accepted.{state-of}
 use Rattle.chart.proofs.Agree.{step-sound}
-use Rattle.chart.proofs.Theorems.{start-row, step-leads, step-row}
-use Rattle.chart.specs.Chart.{classOf, among, isSignal, states}
+use Rattle.chart.proofs.Leaves.{leaf-state}
+use Rattle.chart.proofs.Theorems.{start-row, step-leaf, step-row}
+use Rattle.chart.specs.Chart.{classOf, among, isSignal, leaf, states}
 use Rattle.chart.specs.Flat.{place, rowAt, rowOf, slotBytes, sound}
 use Rattle.chart.specs.Numbers.{mostStates, firstSignal, lastSignal, slotSize, rowSize}
 use Rattle.chart.specs.Step
@@ -31,7 +32,7 @@ use Rattle.story.proofs.Frames.{ended-same}
 pub record Charted (loaded : List ℕ) (o : Objects) (tables : List ℕ) (charts : ℕ → List ℕ) : Type 0 where
   pub good : (q : ℕ) → q < slots → getD loaded q 0 ≡ 1 → classOf (charts q) ≡ 0
   pub table : (q : ℕ) → q < slots → getD loaded q 0 ≡ 1 → take slotSize (drop (slotSize * q) tables) ≡ slotBytes (charts q)
-  pub rests : (k : ℕ) → 0 < getD (o .depths) k 0 → among (states (charts (getD (o .seats) k 0))) (getD (o .rests) k 0) ≡ true
+  pub rests : (k : ℕ) → 0 < getD (o .depths) k 0 → leaf (charts (getD (o .seats) k 0)) (getD (o .rests) k 0) ≡ true
 
 -- A part of a front is that part of the whole.
 part-of-front : (n a m : ℕ) (l : List ℕ) → a + n ≤ m → take n (drop a (take m l)) ≡ take n (drop a l)
@@ -71,18 +72,21 @@ module _ (s : State) (tables : List ℕ) (charts : ℕ → List ℕ) (i : Inv s)
   good : classOf (charts (slotOf s (toRun s))) ≡ 0
   good = let seat = i .seats .seated (toRun s - 1) deep in c .good (slotOf s (toRun s)) (seat .0) (seat .1)
 
+  at-state : among (states (charts (slotOf s (toRun s)))) (restOf s (toRun s)) ≡ true
+  at-state = leaf-state (charts (slotOf s (toRun s))) (restOf s (toRun s)) (c .rests (toRun s - 1) deep)
+
   pub next-row : nextRow s tables ≡ rowOf stepTaken
   unfolding nextRow
   next-row =
       let seat = i .seats .seated (toRun s - 1) deep in
       let w = row-within s i r in
       step-there tables (slotOf s (toRun s)) (charts (slotOf s (toRun s))) (c .table (slotOf s (toRun s)) (seat .0) (seat .1)) good
-      (restOf s (toRun s)) (signalOf s (coming s)) (c .rests (toRun s - 1) deep) (w .rest-high) (w .signal)
+      (restOf s (toRun s)) (signalOf s (coming s)) at-state (w .rest-high) (w .signal)
 
   pub next-sound : sound (nextRow s tables) ≡ true
   next-sound = rw next-row
       (step-sound (charts (slotOf s (toRun s))) good (restOf s (toRun s)) (signalOf s (coming s))
-      (state-of (charts (slotOf s (toRun s))) (restOf s (toRun s)) (c .rests (toRun s - 1) deep)))
+      (state-of (charts (slotOf s (toRun s))) (restOf s (toRun s)) at-state))
 
   pub stepped-charted : Charted (stepped s tables .loaded) (stepped s tables .objects) tables charts
   unfolding stepped
@@ -90,10 +94,10 @@ module _ (s : State) (tables : List ℕ) (charts : ℕ → List ℕ) (i : Inv s)
     good = c .good;
     table = c .table;
     rests =
-        set-all (λ k (x : ℕ). 0 < getD (s .objects .depths) k 0 → among (states (charts (getD (s .objects .seats) k 0))) x ≡ true) (s .objects .rests) 0 (toRun s - 1) _
+        set-all (λ k (x : ℕ). 0 < getD (s .objects .depths) k 0 → leaf (charts (getD (s .objects .seats) k 0)) x ≡ true) (s .objects .rests) 0 (toRun s - 1) _
         (omega (arith, r .low, r .high, i .mail .boxes-length, i .seats .rests-length))
         (λ k ne. c .rests k)
-        (λ l. rw (next-row, row-next stepTaken) (step-leads (charts (slotOf s (toRun s))) good (restOf s (toRun s)) (c .rests (toRun s - 1) deep) (signalOf s (coming s))));
+        (λ l. rw (next-row, row-next stepTaken) (step-leaf (charts (slotOf s (toRun s))) good (restOf s (toRun s)) (signalOf s (coming s)) (c .rests (toRun s - 1) deep)));
   }
 
   pub step-charted : Charted (ended (stepped s tables) .loaded) (ended (stepped s tables) .objects) tables charts

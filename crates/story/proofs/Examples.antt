@@ -143,7 +143,7 @@ expected =
 
 computed : run freshState (zeros payloadArea) (zeros tableArea) asks ≡ expected
 unfolding run asks expected padded blank firstFrom everyFrom shift
-    Chart.byte Chart.parent Chart.states Chart.rowFor Chart.path Chart.has Chart.lengthOk Chart.among Chart.isSignal Chart.formOk Chart.formsOk Chart.stateOk Chart.treeOk Chart.rowOk Chart.rowsOk Chart.classOf
+    Chart.byte Chart.parent Chart.states Chart.rowFor Chart.path Chart.has Chart.lengthOk Chart.among Chart.isSignal Chart.formOk Chart.formsOk Chart.parentOk Chart.stateOk Chart.treeOk Chart.rowOk Chart.rowsOk Chart.classOf
     Step.listed Step.upTo Step.leave Step.enter Step.firstOf Step.limit Step.settle Step.moved Step.step Step.start Flat.rowOf Flat.rowNo Flat.rowsFrom Flat.slotBytes Flat.place Flat.sound
     Box.changed Box.behind Box.ahead Box.rest Box.highestOf Box.total Box.timesIn Entry.entryOf Entry.handOf
     Cell.nextGeneration Cell.isFree Cell.isNew Cell.atLast Cell.generationOf Cell.staleFor Cell.handedOut Cell.more Cell.fewer Cell.dropped

@@ -1,4 +1,4 @@
--- Demand 3: what changes where an object rests, that no row is unsound, and that no accepted chart is turned away.
+-- Demand 3: what changes where an object rests, that it rests in a leaf, that no row is unsound, and that no accepted chart is turned away.
 use mathlib.Core.Bool.{Bool, true, false, cond, not, _||_}
 use mathlib.Core.List.{List, _∷_}
 use mathlib.Core.Logic.{inl, inr, ⊎-elim}
@@ -37,7 +37,7 @@ use Rattle.story.proofs.Numbers.{idle-is}
 use Rattle.story.proofs.Pairs.{drained, drain-whole}
 use Rattle.story.proofs.Refusals.{kept, refused}
 use Rattle.story.proofs.Starting.{start-did}
-use Rattle.story.proofs.Tables.{left-whole, frame, does-so, charts-same, load-unused, unchanged-state}
+use Rattle.story.proofs.Tables.{charted, left-whole, frame, does-so, charts-same, load-unused, unchanged-state}
 use Rattle.story.proofs.Taking.{next-ready, next-steps}
 
 -- ## Where an object rests
@@ -70,6 +70,9 @@ rests h c p low moves =
     ⊎-elim (λ e. inr (inr (e, d))) (λ n18. absurd (moves (other-stays h c p low n2 n12 n18))) (eq-or (commandOf c) DRAIN)) (eq-or (commandOf c) NEXT)) (eq-or (commandOf c) START))
     (λ n. absurd (moves (ap (λ s. restOf s p) (unchanged-state h c n))))
     (eq-or (number h c) 0)
+
+pub restsInLeaf : Demands.RestsInLeaf
+restsInLeaf h first only p low on = charted h first only .rests (p - 1) (started-deep (kernel h) p on)
 
 -- ## The chart of an object
 module _ (h : Story) (c : Call) (p : ℕ) (low : 1 ≤ p) (on : started (kernel h) p ≡ true) where

@@ -1,4 +1,4 @@
--- Demand 3: as long as nobody but the kernel writes to the tables they hold the charts of the last LOADs, and every object rests in a state
+-- Demand 3: as long as nobody but the kernel writes to the tables they hold the charts of the last LOADs, and every object rests in a leaf
 -- of its chart.
 use mathlib.Core.Bool.{Bool, true, false, cond, not, _&&_}
 use mathlib.Core.List.{List}
@@ -13,8 +13,8 @@ use lib.ListN.{length, getD, set, take, drop, replicate}
 use lib.Seq.{getD-set-same, getD-set-other}
 use Rattle.ground.specs.Bools.{cond-pick, eq-or, no-yes}
 use Rattle.ground.specs.Lists.{set-all}
-use Rattle.chart.proofs.Theorems.{slot-size, start-leads}
-use Rattle.chart.specs.Chart.{classOf, among, states}
+use Rattle.chart.proofs.Theorems.{slot-size, start-leaf}
+use Rattle.chart.specs.Chart.{classOf, leaf}
 use Rattle.chart.specs.Flat.{slotBytes}
 use Rattle.chart.specs.Numbers.{slotSize}
 use Rattle.chart.specs.Step
@@ -143,9 +143,9 @@ module _ (l : List ℕ) (o : Objects) (t : List ℕ) (f : ℕ → List ℕ) (c :
     good = c .good;
     table = c .table;
     rests =
-        set-all (λ j (v : ℕ). 0 < v → among (states (f (getD (set (o .seats) k q) j 0))) (getD (set (o .rests) k (Step.start (f q) .next)) j 0) ≡ true) (o .depths) 0 k n m
+        set-all (λ j (v : ℕ). 0 < v → leaf (f (getD (set (o .seats) k q) j 0)) (getD (set (o .rests) k (Step.start (f q) .next)) j 0) ≡ true) (o .depths) 0 k n m
         (λ j ne u. rw (getD-set-other (o .seats) k j q 0 ne, getD-set-other (o .rests) k j (Step.start (f q) .next) 0 ne) (c .rests j u))
-        (λ u. rw (getD-set-same (o .seats) k q 0 (omega arith), getD-set-same (o .rests) k (Step.start (f q) .next) 0 (omega arith)) (start-leads (f q) (c .good q is-slot on)));
+        (λ u. rw (getD-set-same (o .seats) k q 0 (omega arith), getD-set-same (o .rests) k (Step.start (f q) .next) 0 (omega arith)) (start-leaf (f q) (c .good q is-slot on)));
   }
 
 zeros-at : (n i : ℕ) → getD {A = ℕ} (replicate n 0) i 0 ≡ 0

@@ -84,6 +84,10 @@ drainSteps = Nested.drainSteps
 pub rests : Demands.Rests
 rests = Resting.rests
 
+-- No started object in such a story: `Meets`, runs, tables and honest.
+pub restsInLeaf : Demands.RestsInLeaf
+restsInLeaf = Resting.restsInLeaf
+
 -- No started object: `Meets`, runs.
 pub seated : Demands.Seated
 seated = Resting.seated

@@ -7,7 +7,7 @@ use mathlib.Core.Path.{_≡_}
 use Prim.Native.Nat.{ℕ, _*_, _≤_, _<_}
 use lib.ListN.{length, take, drop, replicate}
 use Rattle.ground.specs.Bytes.{padded}
-use Rattle.chart.specs.Chart.{classOf, states}
+use Rattle.chart.specs.Chart.{classOf, leaf, states}
 use Rattle.chart.specs.Numbers.{slotSize}
 use Rattle.chart.specs.Step.{start}
 use Rattle.pool.specs.Cell.{live, isFree, generationOf, nextGeneration}
@@ -112,6 +112,12 @@ abbrev pub Rests : Type 0
 Rests =
     (h : Story) (c : Call) (p : ℕ) → 1 ≤ p → (restOf (kernel (then h c)) p ≡ restOf (kernel h) p → ⊥) →
     (Did START h c × (argument c 1 ≡ p)) ⊎ ((Did NEXT h c × (object h c ≡ p)) ⊎ Did DRAIN h c)
+
+-- "An object rested in a parent state and ignored the whole night": every started object rests in a leaf of its slot's chart.
+abbrev pub RestsInLeaf : Type 0
+RestsInLeaf =
+    (h : Story) (first : List ℕ) → OnlyKernel tableArea first h → (p : ℕ) → 1 ≤ p → started (kernel h) p ≡ true →
+    leaf (chartIn h (slotOf (kernel h) p)) (restOf (kernel h) p) ≡ true
 
 -- A started object stays so, on the chart that its slot had.
 abbrev pub Seated : Type 0
