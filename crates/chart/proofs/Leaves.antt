@@ -37,15 +37,15 @@ module _ (d : List ℕ) where
       p : ℕ
       p = parent d s
 
-      start : (p ≡ 0 → ⊥) → ltb p s ≡ true → byte d p 4 ≡ 0 → ⊥
-      start n l e =
+      has-start : (p ≡ 0 → ⊥) → ltb p s ≡ true → byte d p 4 ≡ 0 → ⊥
+      has-start n l e =
           let u = h .high in
           let m = ltb-true p s l in
           childless p s (starts p (is-state d p (record { low = omega arith; high = omega arith })) e) h refl
 
       go : (t : Bool) → ltb p s ≡ t → (t && (eqb p 0 || not (eqb (byte d p 4) 0))) ≡ t
       go false l = refl
-      go true l = ⊎-elim (λ z. rw (eq-eqb p 0 z) refl) (λ n. rw (ne-eqb p 0 n, ne-eqb (byte d p 4) 0 (start n l)) refl) (eq-or p 0)
+      go true l = ⊎-elim (λ z. rw (eq-eqb p 0 z) refl) (λ n. rw (ne-eqb p 0 n, ne-eqb (byte d p 4) 0 (has-start n l)) refl) (eq-or p 0)
 
 module _ (d : List ℕ) (good : classOf d ≡ 0) where
   acc : Accepted d
@@ -54,9 +54,10 @@ module _ (d : List ℕ) (good : classOf d ≡ 0) where
   pub parents-start : ParentsStart d
   unfolding leaf
   parents-start s h e =
-      let g = state-of d s h in
-      and-both (among (states d) s) _ h
-      (every-all _ 1 (states d + 1) (λ t low high. ap not (ne-eqb (parent d t) s (λ q. parent-starts d acc t (record { low = low; high = omega arith }) (λ z. omega (arith, g .low)) (rw q e)))))
+      and-both (among (states d) s) _ h (every-all _ 1 (states d + 1) (λ t low high. ap not (ne-eqb (parent d t) s (no-child t (record { low = low; high = omega arith })))))
+    where
+      no-child : (t : ℕ) → State d t → parent d t ≡ s → ⊥
+      no-child t g q = parent-starts d acc t g (λ z. omega (arith, state-of d s h .low)) (rw q e)
 
   settled-leaf : (s : ℕ) → State d s → leaf d (settled levels d s) ≡ true
   settled-leaf s h = parents-start (settled levels d s) (is-state d _ (settled-state d acc levels s h)) (settled-ends d acc s h)

@@ -94,6 +94,10 @@ module _ (d : List ℕ) (good : classOf d ≡ 0) where
 pub slot-size : (d : List ℕ) → length (slotBytes d) ≡ slotSize
 slot-size d = slot-length d
 
+-- A leaf is a state of the chart.
+pub leaf-state : (d : List ℕ) (s : ℕ) → leaf d s ≡ true → among (states d) s ≡ true
+leaf-state d s h = Leaves.leaf-state d s h
+
 -- The check asks no more: where each state that is any state's parent has an initial target, a parent has only to be lower.
 pub asks-no-more : (d : List ℕ) → ParentsStart d → (s : ℕ) → among (states d) s ≡ true → parentOk d s (parent d s) ≡ ltb (parent d s) s
 asks-no-more d starts s h = Leaves.asks-no-more d starts s (state-of d s h)

@@ -11,8 +11,7 @@ use lib.Seq.{take-take, drop-drop}
 use Rattle.ground.specs.Lists.{set-all}
 use Rattle.chart.proofs.Accepted.{state-of}
 use Rattle.chart.proofs.Agree.{step-sound}
-use Rattle.chart.proofs.Leaves.{leaf-state}
-use Rattle.chart.proofs.Theorems.{start-row, step-leaf, step-row}
+use Rattle.chart.proofs.Theorems.{leaf-state, start-row, step-leaf, step-row}
 use Rattle.chart.specs.Chart.{classOf, among, isSignal, leaf, states}
 use Rattle.chart.specs.Flat.{place, rowAt, rowOf, slotBytes, sound}
 use Rattle.chart.specs.Numbers.{mostStates, firstSignal, lastSignal, slotSize, rowSize}
