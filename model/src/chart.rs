@@ -312,12 +312,16 @@ impl Chart {
         self.is_state(inner) && inner != outer && self.path(inner).contains(&outer)
     }
 
+    fn is_parent(&self, number: u8) -> bool {
+        self.states.iter().any(|state| state.parent == number)
+    }
+
     /// The part of class 3 that looks at initial transitions.
     fn initials_are_right(&self) -> bool {
         let right = |number: u8| {
             let state = self.state(number);
             match state.initial_target {
-                0 => state.initial_action == 0,
+                0 => state.initial_action == 0 && !self.is_parent(number),
                 target => self.is_inside(target, number),
             }
         };
@@ -447,10 +451,23 @@ impl<'a> Walk<'a> {
 #[cfg(test)]
 mod tests {
     use super::*;
-    use crate::harness::good::{shift, smallest};
+    use crate::harness::builder::ChartBuilder;
+    use crate::harness::good::{self, shift, smallest};
+    use crate::harness::random::RandomCharts;
 
     fn shift_chart() -> Chart {
         parse(&shift()).expect("the shift chart is good")
+    }
+
+    /// 1 > 2 > 3 with these initial targets of 1 and 2.
+    fn three_levels(outer_target: u8, inner_target: u8) -> Vec<u8> {
+        ChartBuilder::top(1, 10)
+            .state(0, 11, 12)
+            .initial(outer_target, 0)
+            .state(1, 21, 22)
+            .initial(inner_target, 0)
+            .state(2, 31, 32)
+            .bytes()
     }
 
     fn moved(next: u8, actions: &[u8]) -> Step {
@@ -518,6 +535,29 @@ mod tests {
     #[test]
     fn the_last_row_ends_the_slot() {
         assert_eq!(row_offset(24, LAST_SIGNAL) + ROW_BYTES, SLOT_BYTES);
+    }
+
+    #[test]
+    fn every_parent_needs_an_initial_target() {
+        assert_eq!(check(&three_levels(2, 3)), GOOD);
+        assert_eq!(check(&three_levels(3, 3)), GOOD);
+        for (outer, inner) in [(0, 3), (2, 0), (3, 0), (0, 0)] {
+            let chart = three_levels(outer, inner);
+            assert_eq!(check(&chart), Fault::States.class(), "{outer} {inner}");
+        }
+    }
+
+    #[test]
+    fn no_parent_is_a_state_of_rest() {
+        let hard = good::all().into_iter().map(|good| good.bytes);
+        let charts = hard.chain(RandomCharts::new(2).take(100));
+        for chart in charts.filter_map(|bytes| parse(&bytes).ok()) {
+            assert!(!chart.is_parent(chart.start().next));
+            for rest in chart.numbers().filter(|&state| !chart.is_parent(state)) {
+                let mut signals = FIRST_SIGNAL..=LAST_SIGNAL;
+                assert!(signals.all(|signal| !chart.is_parent(chart.step(rest, signal).next)));
+            }
+        }
     }
 
     #[test]

@@ -1,7 +1,8 @@
-//! A plain model of document 01, written from the document alone.
+//! A plain model of document 01 with the requests of document 02 that have
+//! landed, written from the documents alone.
 //!
 //! It makes the outputs that the proved implementation is compared with, so it
-//! favours the document's own words over speed.
+//! favours the documents' own words over speed.
 
 pub mod chart;
 pub mod harness;

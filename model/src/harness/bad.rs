@@ -1,6 +1,6 @@
-//! Bad charts: at least one for each fault that document 01 names, and mixtures.
+//! Bad charts: at least one for each fault that documents 01 and 02 name, and mixtures.
 //!
-//! `expected` is the class as read by hand from the document; the model must agree.
+//! `expected` is the class as read by hand from the documents; the model must agree.
 
 use super::builder::ChartBuilder;
 use super::good;
@@ -20,10 +20,13 @@ pub fn all() -> Vec<BadChart> {
         state_counts(),
         nestings(),
         initials(),
+        missing_starts(),
+        missing_starts_and_more(),
         row_fields(),
         row_orders(),
         full_ones(),
         mixtures(),
+        mixtures_with_missing_starts(),
     ];
     classes.into_iter().flatten().collect()
 }
@@ -51,11 +54,43 @@ fn flat_states(count: usize) -> ChartBuilder {
     (0..count).fold(ChartBuilder::top(1, 10), |chart, _| chart.state(0, 1, 2))
 }
 
-/// A chart of that many states, each inside the one before.
+/// A chart of that many states, each inside the one before and with an initial
+/// transition to the next.
 fn nested_states(count: u8) -> ChartBuilder {
-    (0..count).fold(ChartBuilder::top(1, 10), |chart, parent| {
-        chart.state(parent, 1, 2)
-    })
+    let outer = (1..count).fold(ChartBuilder::top(1, 10), |chart, number| {
+        chart.state(number - 1, 1, 2).initial(number + 1, 3)
+    });
+    outer.state(count - 1, 1, 2)
+}
+
+/// The chart without the initial transition of that state.
+fn without_start(mut bytes: Vec<u8>, state: usize) -> Vec<u8> {
+    bytes[8 * state + 4..8 * state + 6].fill(0);
+    bytes
+}
+
+/// A parent that has no initial target, in the smallest chart: 1 > 2.
+fn no_start(top_target: u8) -> ChartBuilder {
+    let top = ChartBuilder::top(top_target, 10);
+    top.state(0, 1, 2).state(1, 1, 2)
+}
+
+/// A chart that would start in 1, a parent, and rest there: 1 > {2 > 3, 4}.
+fn composite_at_rest() -> Vec<u8> {
+    ChartBuilder::top(1, 0)
+        .state(0, 0, 12)
+        .state(1, 21, 0)
+        .initial(3, 0)
+        .state(2, 0, 0)
+        .state(1, 41, 42)
+        .transition(1, 4, 2, 0)
+        .internal(1, 5, 0)
+        .transition(1, 6, 1, 0)
+        .transition(2, 8, 4, 0)
+        .transition(3, 7, 1, 37)
+        .internal(4, 9, 49)
+        .transition(4, 10, 2, 40)
+        .bytes()
 }
 
 fn shortened(mut bytes: Vec<u8>, length: usize) -> Vec<u8> {
@@ -172,14 +207,20 @@ fn nestings() -> Vec<BadChart> {
         chart(
             "parent_comes_later",
             3,
-            flat_states(1).state(3, 1, 2).state(0, 1, 2).bytes(),
+            flat_states(1)
+                .state(3, 1, 2)
+                .state(0, 1, 2)
+                .initial(2, 3)
+                .bytes(),
         ),
         chart(
             "parents_in_a_ring",
             3,
             ChartBuilder::top(1, 10)
                 .state(2, 1, 2)
+                .initial(2, 3)
                 .state(1, 1, 2)
+                .initial(1, 3)
                 .bytes(),
         ),
         chart("levels_7", 3, nested_states(7).bytes()),
@@ -187,7 +228,11 @@ fn nestings() -> Vec<BadChart> {
         chart(
             "levels_7_after_a_good_branch",
             3,
-            nested_states(6).state(0, 1, 2).state(6, 1, 2).bytes(),
+            nested_states(6)
+                .initial(8, 3)
+                .state(0, 1, 2)
+                .state(6, 1, 2)
+                .bytes(),
         ),
     ]
 }
@@ -198,27 +243,23 @@ fn initials() -> Vec<BadChart> {
         let state = four_states().state(parent, 1, 2);
         state.initial(target, action).bytes()
     };
+    let innermost = |target| nested_states(3).initial(target, 9).bytes();
     vec![
         chart("initial_to_itself", 3, fifth(0, 5, 9)),
-        chart("initial_to_parent", 3, fifth(2, 2, 9)),
-        chart("initial_to_outermost", 3, fifth(2, 1, 9)),
+        chart("initial_to_parent", 3, innermost(2)),
+        chart("initial_to_outermost", 3, innermost(1)),
         chart("initial_to_sibling", 3, fifth(1, 3, 9)),
-        chart("initial_to_other_tree", 3, fifth(4, 2, 0)),
+        chart("initial_to_other_tree", 3, fifth(0, 2, 0)),
         chart("initial_absent", 3, fifth(0, 6, 9)),
         chart("initial_255", 3, fifth(0, 255, 0)),
         chart("initial_action_alone", 3, fifth(0, 0, 9)),
         chart(
-            "initial_action_alone_in_composite",
-            3,
-            flat_states(1).initial(0, 255).state(1, 1, 2).bytes(),
-        ),
-        chart(
             "initial_to_later_sibling",
             3,
             four_states()
-                .state(4, 1, 2)
+                .state(1, 1, 2)
                 .initial(6, 9)
-                .state(4, 1, 2)
+                .state(1, 1, 2)
                 .bytes(),
         ),
         chart(
@@ -241,6 +282,117 @@ fn initials() -> Vec<BadChart> {
             3,
             ChartBuilder::top(255, 10).state(0, 1, 2).bytes(),
         ),
+    ]
+}
+
+/// Class 3: a state that is another state's parent and has no initial target.
+pub fn missing_starts() -> Vec<BadChart> {
+    let three_levels = nested_states(3).bytes();
+    let six_levels = nested_states(6).bytes();
+    vec![
+        chart("no_start", 3, no_start(1).bytes()),
+        chart("no_start_in_1_of_shift", 3, without_start(good::shift(), 1)),
+        chart("no_start_in_3_of_shift", 3, without_start(good::shift(), 3)),
+        chart("no_start_in_19_of_full", 3, without_start(good::full(), 19)),
+        chart(
+            "no_start_in_outer_parent",
+            3,
+            without_start(three_levels.clone(), 1),
+        ),
+        chart(
+            "no_start_in_inner_parent",
+            3,
+            without_start(three_levels, 2),
+        ),
+        chart(
+            "no_start_at_level_5",
+            3,
+            without_start(six_levels.clone(), 5),
+        ),
+        chart(
+            "no_start_at_any_level",
+            3,
+            (1..6).fold(six_levels, without_start),
+        ),
+        chart("no_start_in_23", 3, flat_states(23).state(23, 1, 2).bytes()),
+        chart(
+            "no_start_in_parent_of_24",
+            3,
+            flat_states(23).state(1, 1, 2).bytes(),
+        ),
+        chart(
+            "no_start_in_top_target",
+            3,
+            ChartBuilder::top(2, 10)
+                .state(0, 1, 2)
+                .state(0, 1, 2)
+                .state(2, 1, 2)
+                .bytes(),
+        ),
+        chart("no_start_around_top_target", 3, no_start(2).bytes()),
+        chart(
+            "no_start_out_of_reach",
+            3,
+            flat_states(2).state(2, 1, 2).bytes(),
+        ),
+        chart(
+            "no_start_around_initial_target",
+            3,
+            flat_states(1)
+                .initial(3, 9)
+                .state(1, 1, 2)
+                .state(2, 1, 2)
+                .bytes(),
+        ),
+        chart(
+            "no_start_beside_initial_target",
+            3,
+            four_states().state(3, 1, 2).bytes(),
+        ),
+        chart("composite_at_rest", 3, composite_at_rest()),
+    ]
+}
+
+/// Class 3: the same beside each other fault of the class.
+fn missing_starts_and_more() -> Vec<BadChart> {
+    vec![
+        chart(
+            "no_start_and_parent_is_itself",
+            3,
+            no_start(1).state(3, 1, 2).bytes(),
+        ),
+        chart(
+            "no_start_in_parent_that_comes_later",
+            3,
+            flat_states(1).state(3, 1, 2).state(0, 1, 2).bytes(),
+        ),
+        chart(
+            "no_start_and_levels_7",
+            3,
+            without_start(nested_states(7).bytes(), 6),
+        ),
+        chart(
+            "no_start_and_initial_to_itself",
+            3,
+            no_start(1).initial(2, 9).bytes(),
+        ),
+        chart(
+            "no_start_and_initial_absent",
+            3,
+            no_start(1).initial(3, 9).bytes(),
+        ),
+        chart(
+            "no_start_and_initial_action_alone",
+            3,
+            no_start(1).initial(0, 9).bytes(),
+        ),
+        chart(
+            "initial_action_alone_in_composite",
+            3,
+            flat_states(1).initial(0, 255).state(1, 1, 2).bytes(),
+        ),
+        chart("no_start_and_top_target_0", 3, no_start(0).bytes()),
+        chart("no_start_and_top_target_absent", 3, no_start(3).bytes()),
     ]
 }
 
@@ -427,10 +579,86 @@ fn mixtures() -> Vec<BadChart> {
     ]
 }
 
+/// A parent without an initial target beside faults of other classes.
+fn mixtures_with_missing_starts() -> Vec<BadChart> {
+    let unknown = [9, 0, 0, 0, 0, 0, 0, 0];
+    let top_with_filler = [3, 1, 10, 7, 0, 0, 0, 0];
+    let state_with_filler = [1, 0, 1, 2, 0, 0, 7, 0];
+    let wrong_row = || no_start(1).internal(0, 4, 9);
+    let too_long = extended(good::full(), &[2, 24, 31, 0, 0, 1, 0, 0]);
+    vec![
+        chart(
+            "no_start_and_class_1",
+            1,
+            extended(no_start(1).bytes(), &[0]),
+        ),
+        chart(
+            "no_start_and_class_1_too_long",
+            1,
+            without_start(too_long, 19),
+        ),
+        chart(
+            "no_start_and_class_2_before",
+            2,
+            ChartBuilder::empty()
+                .record(top_with_filler)
+                .state(0, 1, 2)
+                .state(1, 1, 2)
+                .bytes(),
+        ),
+        chart(
+            "no_start_and_class_2_in_one_state",
+            2,
+            ChartBuilder::top(1, 10)
+                .record(state_with_filler)
+                .state(1, 1, 2)
+                .bytes(),
+        ),
+        chart(
+            "no_start_and_class_2_after",
+            2,
+            no_start(1).record(unknown).bytes(),
+        ),
+        chart(
+            "no_start_and_class_2_by_late_child",
+            2,
+            flat_states(1).internal(1, 4, 9).state(1, 1, 2).bytes(),
+        ),
+        chart(
+            "no_start_and_class_2_by_count",
+            2,
+            flat_states(24).state(24, 1, 2).bytes(),
+        ),
+        chart("no_start_and_class_4", 3, wrong_row().bytes()),
+        chart(
+            "no_start_and_class_4_by_target",
+            3,
+            no_start(1).transition(1, 4, 3, 9).bytes(),
+        ),
+        chart(
+            "no_start_and_class_4_by_order",
+            3,
+            no_start(1).internal(1, 6, 9).internal(1, 5, 9).bytes(),
+        ),
+        chart(
+            "no_start_and_class_2_and_4",
+            2,
+            wrong_row().record(unknown).bytes(),
+        ),
+        chart(
+            "no_start_and_class_1_to_4",
+            1,
+            extended(wrong_row().record(unknown).bytes(), &[2]),
+        ),
+    ]
+}
+
 #[cfg(test)]
 mod tests {
     use super::*;
     use crate::chart::{check, flatten, SLOT_BYTES};
+    use crate::harness::starts::{missing, missing_is_the_only_fault};
+    use std::collections::HashSet;
 
     #[test]
     fn the_model_agrees_with_the_classes_by_hand() {
@@ -445,6 +673,34 @@ mod tests {
             let mut slot = vec![0xee; SLOT_BYTES];
             assert_eq!(flatten(&bad.bytes, &mut slot), bad.expected);
             assert!(slot.iter().all(|&byte| byte == 0xee), "{}", bad.name);
+        }
+    }
+
+    /// The charts in which a start is missing beside another fault.
+    fn missing_beside_others() -> Vec<BadChart> {
+        let mut charts = missing_starts_and_more();
+        charts.extend(mixtures_with_missing_starts());
+        charts
+    }
+
+    #[test]
+    fn a_start_is_missing_alone_and_beside_others() {
+        for bad in missing_starts() {
+            assert!(missing_is_the_only_fault(&bad.bytes), "{}", bad.name);
+        }
+        for bad in missing_beside_others() {
+            assert_ne!(missing(&bad.bytes), [], "{}", bad.name);
+            assert!(!missing_is_the_only_fault(&bad.bytes), "{}", bad.name);
+        }
+    }
+
+    /// A chart that is there for another fault must not be refused for this one.
+    #[test]
+    fn no_start_is_missing_in_other_bad_charts() {
+        let own = [missing_starts(), missing_beside_others()];
+        let own: HashSet<_> = own.iter().flatten().map(|bad| bad.name).collect();
+        for bad in all().iter().filter(|bad| !own.contains(bad.name)) {
+            assert_eq!(missing(&bad.bytes), [], "{}", bad.name);
         }
     }
 

@@ -71,6 +71,7 @@ fn write_answer(out: &mut impl Write, case: &Case) -> io::Result<()> {
 mod tests {
     use super::*;
     use crate::chart::check;
+    use crate::harness::starts::missing_is_the_only_fault;
 
     fn expected() -> String {
         let mut out = Vec::new();
@@ -122,11 +123,13 @@ mod tests {
     }
 
     #[test]
-    fn the_random_charts_are_of_every_class() {
+    fn the_random_charts_are_of_every_class_and_some_only_lack_a_start() {
         let random: Vec<_> = all().into_iter().filter(|case| !case.shows_rows).collect();
         assert_eq!(random.len(), RANDOM_COUNT);
         for class in 0..=4 {
             assert!(random.iter().any(|case| check(&case.chart) == class));
         }
+        let mut charts = random.iter().map(|case| &case.chart);
+        assert!(charts.any(|chart| missing_is_the_only_fault(chart)));
     }
 }

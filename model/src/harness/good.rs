@@ -23,7 +23,7 @@ pub fn all() -> Vec<GoodChart> {
         chart("self_at_top", self_at_top()),
         chart("around_and_inside", around_and_inside()),
         chart("eighteen", eighteen()),
-        chart("composite_at_rest", composite_at_rest()),
+        chart("actions_not_listed", actions_not_listed()),
         chart("many_tops", many_tops()),
     ]
 }
@@ -63,6 +63,7 @@ pub fn six_levels() -> Vec<u8> {
         .state(2, 31, 32)
         .initial(4, 33)
         .state(3, 41, 42)
+        .initial(5, 43)
         .state(4, 51, 52)
         .initial(6, 53)
         .state(5, 61, 62)
@@ -82,10 +83,10 @@ const FULL_PARENTS: [u8; 24] = [
     0, 1, 2, 3, 4, 5, 3, 2, 1, 9, 0, 11, 12, 13, 14, 15, 15, 12, 11, 19, 0, 21, 22, 0,
 ];
 
-/// 1, 4 and 21 skip a level, 2 leads to another child than 1 goes through, 11 to
-/// 15 lead down one by one, and 19 has none though it is composite.
+/// 1, 4 and 21 skip a level, 2 leads to another child than 1 goes through, and
+/// every other parent to its first child.
 const FULL_INITIAL_TARGETS: [u8; 24] = [
-    3, 8, 4, 6, 6, 0, 0, 0, 10, 0, 12, 13, 14, 15, 16, 0, 0, 0, 0, 0, 23, 23, 0, 0,
+    3, 8, 4, 6, 6, 0, 0, 0, 10, 0, 12, 13, 14, 15, 16, 0, 0, 0, 20, 0, 23, 23, 0, 0,
 ];
 
 /// The fullest chart: 24 states, each with a row for each signal. Every state
@@ -122,7 +123,8 @@ pub fn self_at_top() -> Vec<u8> {
         .state(2, 31, 32)
         .state(0, 41, 42)
         .state(2, 51, 52)
-        .state(0, 61, 62) // without an initial target: its self transition ends in it
+        .state(0, 61, 62)
+        .initial(7, 63)
         .state(6, 71, 72)
         .transition(1, 4, 1, 14)
         .transition(1, 8, 4, 18)
@@ -180,14 +182,16 @@ pub fn eighteen() -> Vec<u8> {
         .bytes()
 }
 
-/// Composite states that may be states of rest, and actions that are 0: 1 > {2 > 3, 4}.
-pub fn composite_at_rest() -> Vec<u8> {
+/// Actions that are 0, down to a start without any: 1 > {2 > 3, 4, 5}.
+pub fn actions_not_listed() -> Vec<u8> {
     ChartBuilder::top(1, 0)
         .state(0, 0, 12)
+        .initial(5, 0)
         .state(1, 21, 0)
         .initial(3, 0)
         .state(2, 0, 0)
         .state(1, 41, 42)
+        .state(1, 0, 0)
         .transition(1, 4, 2, 0)
         .internal(1, 5, 0)
         .transition(1, 6, 1, 0)
@@ -265,18 +269,19 @@ mod tests {
     #[test]
     fn six_levels_steps() {
         let chart = chart(six_levels());
-        assert_start(&chart, 4, &[10, 11, 13, 21, 31, 33, 41]);
+        assert_start(&chart, 6, &[10, 11, 13, 21, 31, 33, 41, 43, 51, 53, 61]);
         assert_moves(&chart, (4, 4), 6, &[42, 34, 41, 51, 53, 61]);
-        assert_moves(&chart, (6, 4), 4, &[62, 52, 64]);
+        assert_moves(&chart, (6, 4), 6, &[62, 52, 64, 43, 51, 53, 61]);
         assert_step(&chart, (2, 4), Outcome::Internal, 2, &[14]);
         let down_again = [62, 52, 42, 32, 22, 15, 21, 31, 41, 51, 61];
         assert_moves(&chart, (6, 5), 6, &down_again);
         assert_moves(&chart, (4, 5), 6, &[42, 32, 22, 15, 21, 31, 41, 51, 61]);
         let by_initial = [62, 52, 42, 32, 22, 25, 21, 23, 31, 41, 51, 61];
         assert_moves(&chart, (6, 6), 6, &by_initial);
-        let around = [62, 52, 42, 32, 22, 67, 13, 21, 31, 33, 41];
-        assert_moves(&chart, (6, 7), 4, &around);
-        assert_moves(&chart, (6, 31), 4, &[62, 52, 42, 59, 33, 41]);
+        let around = [62, 52, 42, 32, 22, 67, 13, 21, 31, 33, 41, 43, 51, 53, 61];
+        assert_moves(&chart, (6, 7), 6, &around);
+        let to_third = [62, 52, 42, 59, 33, 41, 43, 51, 53, 61];
+        assert_moves(&chart, (6, 31), 6, &to_third);
         assert_step(&chart, (4, 7), Outcome::Ignored, 4, &[]);
     }
 
@@ -310,6 +315,10 @@ mod tests {
         assert_moves(&chart, (6, 30), 6, &[61, 188, 52, 60]);
         // Turn (27 - 4 + 24) % 28 = 19: from 24 to 20, action 696 + 243 - 768.
         assert_moves(&chart, (24, 27), 20, &[241, 171, 110, 190, 200]);
+        // Turn (26 - 4 + 24) % 28 = 18: from 24 to 19, action 696 + 234 - 768, and on to 20.
+        assert_moves(&chart, (24, 26), 20, &[241, 162, 110, 190, 192, 200]);
+        // Turn (31 - 4 + 19) % 28 = 18: the self transition of 19, action 551 + 279 - 768.
+        assert_moves(&chart, (19, 31), 20, &[191, 62, 190, 192, 200]);
         // Turn (4 - 4 + 24) % 28 = 24: internal, action 696 + 36 - 512.
         assert_step(&chart, (24, 4), Outcome::Internal, 24, &[220]);
     }
@@ -323,8 +332,9 @@ mod tests {
         assert_moves(&chart, (5, 5), 3, &[52, 22, 25, 21, 23, 31]);
         assert_moves(&chart, (3, 6), 3, &[32, 36, 31]);
         assert_moves(&chart, (4, 7), 4, &[42, 47, 41]);
-        assert_moves(&chart, (7, 9), 6, &[72, 62, 69, 61]);
-        assert_moves(&chart, (6, 9), 6, &[62, 69, 61]);
+        assert_moves(&chart, (4, 8), 7, &[42, 48, 61, 71]);
+        assert_moves(&chart, (7, 9), 7, &[72, 62, 69, 61, 63, 71]);
+        assert_moves(&chart, (6, 9), 7, &[62, 69, 61, 63, 71]);
         assert_moves(&chart, (7, 8), 5, &[72, 62, 68, 11, 21, 51]);
     }
 
@@ -365,15 +375,17 @@ mod tests {
     }
 
     #[test]
-    fn composite_at_rest_steps() {
-        let chart = chart(composite_at_rest());
-        assert_start(&chart, 1, &[]);
+    fn actions_not_listed_steps() {
+        let chart = chart(actions_not_listed());
+        assert_start(&chart, 5, &[]);
         assert_moves(&chart, (1, 4), 3, &[21]);
         assert_moves(&chart, (3, 4), 3, &[21]);
+        assert_moves(&chart, (5, 4), 3, &[21]);
         assert_step(&chart, (3, 5), Outcome::Internal, 3, &[]);
-        assert_moves(&chart, (1, 6), 1, &[12]);
-        assert_moves(&chart, (3, 6), 1, &[12]);
-        assert_moves(&chart, (3, 7), 1, &[37]);
+        assert_moves(&chart, (1, 6), 5, &[12]);
+        assert_moves(&chart, (3, 6), 5, &[12]);
+        assert_moves(&chart, (5, 6), 5, &[12]);
+        assert_moves(&chart, (3, 7), 5, &[37]);
         assert_moves(&chart, (3, 8), 4, &[41]);
         assert_step(&chart, (4, 9), Outcome::Internal, 4, &[49]);
         assert_moves(&chart, (4, 10), 3, &[42, 40, 21]);

@@ -6,6 +6,8 @@ pub mod cases;
 pub mod good;
 pub mod random;
 pub mod report;
+#[cfg(test)]
+mod starts;
 pub mod traces;
 
 /// The bytes of the good or bad chart of that name.

@@ -143,7 +143,7 @@ fn good_chart(random: &mut Xorshift) -> Vec<u8> {
         let parent = nesting.parents[state] as u8;
         chart = chart.state(parent, random.action(), random.action());
         let inside = nesting.inside(state);
-        if !inside.is_empty() && random.percent(70) {
+        if !inside.is_empty() {
             chart = chart.initial(random.pick(&inside) as u8, random.action());
         }
     }
@@ -186,7 +186,7 @@ fn damaged_once(random: &mut Xorshift, mut bytes: Vec<u8>) -> Vec<u8> {
     if bytes.is_empty() {
         return bytes;
     }
-    match random.below(10) {
+    match random.below(12) {
         0 | 1 => {
             let place = place(random, bytes.len());
             bytes[place] = random.byte();
@@ -203,6 +203,7 @@ fn damaged_once(random: &mut Xorshift, mut bytes: Vec<u8>) -> Vec<u8> {
             let length = random.below(bytes.len());
             bytes.truncate(length);
         }
+        9 | 10 => remove_initial(random, &mut bytes),
         _ => extend(random, &mut bytes),
     }
     bytes
@@ -236,6 +237,17 @@ fn remove_record(random: &mut Xorshift, bytes: &mut Vec<u8>) {
     }
 }
 
+/// Takes the initial transition of a state away, if there is one.
+fn remove_initial(random: &mut Xorshift, bytes: &mut [u8]) {
+    let records = bytes.chunks_exact_mut(RECORD_BYTES);
+    let states_with_one = records.filter(|record| record[0] == 1 && record[4] != 0);
+    let mut states: Vec<&mut [u8]> = states_with_one.collect();
+    if !states.is_empty() {
+        let drawn = random.below(states.len());
+        states[drawn][4..6].fill(0);
+    }
+}
+
 /// Adds a copy of a record at the end, or any few bytes.
 fn extend(random: &mut Xorshift, bytes: &mut Vec<u8>) {
     match record_start(random, bytes) {
@@ -251,6 +263,7 @@ fn extend(random: &mut Xorshift, bytes: &mut Vec<u8>) {
 mod tests {
     use super::*;
     use crate::chart::{check, parse, sound, GOOD, ROW_BYTES};
+    use crate::harness::starts::missing_is_the_only_fault;
 
     #[test]
     fn built_charts_are_good_and_their_rows_are_sound() {
@@ -272,6 +285,13 @@ mod tests {
         let count = |class| classes.iter().filter(|&&found| found == class).count();
         assert!((160..=240).contains(&count(GOOD)));
         assert!((1..=4).all(|class| count(class) >= 20));
+    }
+
+    #[test]
+    fn some_charts_are_bad_only_for_a_missing_start() {
+        let charts = RandomCharts::new(1).take(400);
+        let alone = charts.filter(|bytes| missing_is_the_only_fault(bytes));
+        assert!(alone.count() >= 10);
     }
 
     #[test]

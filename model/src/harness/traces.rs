@@ -6,8 +6,9 @@ mod opening;
 mod pick;
 pub mod show;
 
+use super::bad::{self, BadChart};
+use super::good;
 use super::random::{RandomCharts, Xorshift};
-use super::{bad, good};
 use crate::chart::{check, GOOD};
 use crate::kernel::numbers::{RECORD_BYTES, REPLY_BYTES};
 use crate::kernel::replay::{Charts, Program};
@@ -64,11 +65,9 @@ fn random_chart(random: &mut Xorshift) -> Vec<u8> {
     match random.below(100) {
         0..40 => hard_chart(random),
         40..70 => found_chart(random, |class| class == GOOD),
-        70..78 => found_chart(random, |class| class != GOOD),
-        78..86 => {
-            let bad = bad::all();
-            bad[random.below(bad.len())].bytes.clone()
-        }
+        70..73 => bad_chart(random, bad::missing_starts()),
+        73..78 => found_chart(random, |class| class != GOOD),
+        78..86 => bad_chart(random, bad::all()),
         _ => Vec::new(),
     }
 }
@@ -76,6 +75,10 @@ fn random_chart(random: &mut Xorshift) -> Vec<u8> {
 fn hard_chart(random: &mut Xorshift) -> Vec<u8> {
     let good = good::all();
     good[random.below(good.len())].bytes.clone()
+}
+
+fn bad_chart(random: &mut Xorshift, mut bad: Vec<BadChart>) -> Vec<u8> {
+    bad.swap_remove(random.below(bad.len())).bytes
 }
 
 /// The first random chart whose class is wanted.
@@ -88,8 +91,10 @@ fn found_chart(random: &mut Xorshift, wanted: impl Fn(u32) -> bool) -> Vec<u8> {
 #[cfg(test)]
 mod tests {
     use super::*;
+    use crate::harness::starts::missing_is_the_only_fault;
     use crate::kernel::command::Command;
-    use crate::kernel::replay::replay;
+    use crate::kernel::replay::{chart_for, replay};
+    use crate::kernel::reply::Refusal;
 
     #[test]
     fn the_replies_are_those_of_a_replay() {
@@ -113,6 +118,18 @@ mod tests {
         let replies = traces.iter().flat_map(Trace::exchanges);
         let done = replies.filter(|(_, reply)| reply[0] == 0).count();
         assert!(done > 20 * 500 / 2);
+    }
+
+    #[test]
+    fn some_loads_are_refused_only_for_a_missing_start() {
+        let refuses_one = |trace: &Trace| {
+            let chart = Refusal::Chart as u8;
+            let refused = trace.exchanges().filter(|(_, reply)| reply[0] == chart);
+            let mut charts = refused.map(|(load, _)| chart_for(load, &trace.charts));
+            charts.any(missing_is_the_only_fault)
+        };
+        let traces = (0..20).map(|seed| Trace::random(seed, 200));
+        assert!(traces.filter(refuses_one).count() >= 2);
     }
 
     /// DRAIN is NEXT and END, so a trace with these in its place ends in the same state.
