@@ -1,7 +1,7 @@
 /*
  * Calls the check and the flattener from C, as the bench PC does.
  *
- * The expected bytes are written by hand from document 01.
+ * The expected bytes are written by hand from documents 01 and 02.
  */
 #include "trunhoac.h"
 
@@ -112,13 +112,25 @@ static void expect_class(uint32_t class, const uint8_t *chart, size_t length, co
     expect(flatten(chart, length, 1) == class && untouched(), what);
 }
 
+static uint8_t *with(uint8_t *chart, size_t place, uint8_t value)
+{
+    chart[place] = value;
+    return chart;
+}
+
 /* The shift chart with one byte changed. */
-static const uint8_t *changed(size_t place, uint8_t value)
+static uint8_t *changed(size_t place, uint8_t value)
 {
     static uint8_t chart[SHIFT_BYTES];
     memcpy(chart, shift_chart, SHIFT_BYTES);
-    chart[place] = value;
-    return chart;
+    return with(chart, place, value);
+}
+
+/* The shift chart without the initial transition of a state. */
+static uint8_t *without_start(size_t state)
+{
+    size_t initial = state * RECORD_BYTES + 4;
+    return with(changed(initial, 0), initial + 1, 0);
 }
 
 static void test_classes(void)
@@ -139,6 +151,45 @@ static void test_classes(void)
     expect_class(4, changed(FIRST_ROW + 2, 3), SHIFT_BYTES, "class 4: signal 3");
     expect_class(4, changed(FIRST_ROW + 4, 6), SHIFT_BYTES, "class 4: target absent");
     expect_class(4, changed(FIRST_ROW + 1, 3), SHIFT_BYTES, "class 4: rows not ascending");
+}
+
+/* A state that is another state's parent and has no initial target. */
+static void test_missing_starts(void)
+{
+    expect_class(3, without_start(1), SHIFT_BYTES, "class 3: no start in state 1");
+    expect_class(3, without_start(3), SHIFT_BYTES, "class 3: no start in state 3");
+    expect_class(3, with(without_start(3), 1, 6), SHIFT_BYTES, "class 3: and top target absent");
+    expect_class(1, without_start(3), SHIFT_BYTES - 1, "class 1 and no start");
+    expect_class(2, with(without_start(3), 7, 1), SHIFT_BYTES, "class 2, then no start");
+    expect_class(2, with(without_start(3), SHIFT_BYTES - 1, 1), SHIFT_BYTES, "no start, then class 2");
+    expect_class(3, with(without_start(3), FIRST_ROW + 2, 3), SHIFT_BYTES, "no start and class 4");
+}
+
+static void test_three_levels(void)
+{
+    uint8_t chart[] = {
+        3, 1, 10, 0,  0, 0,  0, 0, /* top */
+        1, 0, 11, 12, 0, 0,  0, 0, /* state 1, the parent of the parent */
+        1, 1, 21, 22, 3, 23, 0, 0, /* state 2 */
+        1, 2, 31, 32, 0, 0,  0, 0, /* state 3 */
+        2, 1, 4,  1,  1, 14, 0, 0, /* the only row */
+    };
+    static const uint8_t start[] = {3, 2, 6, 10, 11, 13, 21, 23, 31};
+    static const uint8_t one_by_four[] = {3, 2, 7, 12, 14, 11, 13, 21, 23, 31};
+    static const uint8_t two_by_four[] = {3, 2, 8, 22, 12, 14, 11, 13, 21, 23, 31};
+    static const uint8_t two_by_five[] = {2, 0, 0};
+    static const uint8_t three_by_four[] = {3, 2, 9, 32, 22, 12, 14, 11, 13, 21, 23, 31};
+
+    expect_class(3, chart, sizeof chart, "class 3: only the parent of the parent has no start");
+    with(with(chart, RECORD_BYTES + 4, 2), RECORD_BYTES + 5, 13);
+    expect(chart_check(chart, sizeof chart) == 0, "with a start it is good");
+    expect(flatten(chart, sizeof chart, TRUNHOAC_SLOT_BYTES) == 0, "and is flattened");
+    expect(written(), "the whole slot is written, and nothing else");
+    expect_row(0, start, sizeof start, "the start row, down to state 3");
+    expect_row(24, one_by_four, sizeof one_by_four, "the row of state 1, a parent, and signal 4");
+    expect_row(696, two_by_four, sizeof two_by_four, "the row of state 2, a parent, and signal 4");
+    expect_row(720, two_by_five, sizeof two_by_five, "the row of state 2 and signal 5, ignored");
+    expect_row(1368, three_by_four, sizeof three_by_four, "the row of state 3 and signal 4");
 }
 
 static void test_slot_lengths(void)
@@ -176,6 +227,8 @@ int main(void)
 {
     test_shift_chart();
     test_classes();
+    test_missing_starts();
+    test_three_levels();
     test_slot_lengths();
     test_damaged_charts();
     printf("%d passed, %d failed\n", passed, failed);

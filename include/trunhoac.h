@@ -145,7 +145,8 @@ void trunhoac_read(const struct trunhoac_kernel *kernel,
  *   1  the length is 0, not a multiple of 8, or above 5,576
  *   2  an unknown record kind, kinds out of order, a filler byte that is not 0,
  *      no state or more than 24
- *   3  a fault of the states: parent, level, initial target or action, top target
+ *   3  a fault of the states: parent, level, initial target or action, a parent
+ *      without an initial target, top target
  *   4  a fault of the rows: state, signal, kind, target, or their order
  *   5  only from the flattener: the chart is good, but the slot has another length
  *

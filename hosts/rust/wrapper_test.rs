@@ -1,4 +1,4 @@
-//! What the sample night does not reach of the wrapper. The values expected are document 01's.
+//! What the sample night does not reach of the wrapper. The values expected are those of documents 01 and 02.
 
 use trunhoac::Refusal::{self, *};
 use trunhoac::{chart_check, chart_flatten, DrainEnd, Event, Kernel, Outcome, Released};
@@ -156,8 +156,16 @@ fn timers_fire_by_ascending_number() {
 
 #[test]
 fn charts_are_refused_by_class() {
-    let bad = [vec![], changed(0, 9), changed(9, 1), changed(50, 3)];
-    for (class, chart) in (1..).zip(bad) {
+    let mut without_start = changed(28, 0);
+    without_start[29] = 0; // state 3, a parent, has no initial transition now
+    let bad = [
+        (1, vec![]),
+        (2, changed(0, 9)),
+        (3, changed(9, 1)),
+        (3, without_start),
+        (4, changed(50, 3)),
+    ];
+    for (class, chart) in bad {
         assert_eq!(chart_check(&chart), Err(Chart(class)));
         assert_eq!(chart_flatten(&chart, &mut []), Err(Chart(class)));
         assert_eq!(Kernel::fresh().load(0, &chart), Err(Chart(class)));
