@@ -44,6 +44,7 @@ FILE *open_in(const char *folder, const char *name);
 /* words.c: a record written in words, and the reply behind it. */
 struct line {
     bool is_fresh;
+    bool is_chart; /* the record is one of a chart, and has no reply */
     size_t length; /* 0 where the line has no record */
     uint8_t record[TRUNHOAC_RECORD_BYTES];
     uint8_t reply[TRUNHOAC_REPLY_BYTES];

@@ -2,6 +2,7 @@
  * Reads a record written in words, and the bytes of its reply behind `=`:
  *     POST 0 0 9 2 = 0 0 0 0 1
  * A number for a name is the first byte of a record, PIECE a record of just the bytes that follow, FRESH a mark.
+ * TOP, STATE and ROW are the records of a chart, which have no reply.
  */
 #include "test.h"
 
@@ -9,7 +10,9 @@
 
 #define BLANKS " \t\r\n"
 
-enum { ARM_TICKS = 4, NEW_UNUSED = 3, PAYLOAD = 8 };
+enum { ARM_TICKS = 4, NEW_UNUSED = 3, PAYLOAD = 8, CHART_RECORD_BYTES = 8 };
+
+enum { STATE = 1, ROW, TOP };
 
 static const char *const names[] = {
     [TRUNHOAC_LOAD] = "LOAD",           [TRUNHOAC_START] = "START",
@@ -23,11 +26,13 @@ static const char *const names[] = {
     [TRUNHOAC_READ] = "READ",           [TRUNHOAC_DRAIN] = "DRAIN",
 };
 
-/* 0 if there is no such command. */
-static uint8_t command_named(const char *word)
+static const char *const kinds[] = {[STATE] = "STATE", [ROW] = "ROW", [TOP] = "TOP"};
+
+/* 0 if the word is none of those, which are numbered from 1. */
+static uint8_t number_of(const char *word, const char *const *those, uint8_t last)
 {
-    for (uint8_t i = TRUNHOAC_LOAD; i <= TRUNHOAC_DRAIN; i++)
-        if (strcmp(word, names[i]) == 0)
+    for (uint8_t i = 1; i <= last; i++)
+        if (strcmp(word, those[i]) == 0)
             return i;
     return 0;
 }
@@ -48,7 +53,7 @@ static bool put(struct line *line, uint8_t name, size_t *at, const char *word)
     if (name == TRUNHOAC_NEW && *at == NEW_UNUSED)
         *at = PAYLOAD;
     size_t width = name == TRUNHOAC_ARM && *at >= ARM_TICKS ? 2 : 1;
-    if (*at + width > sizeof line->record || !read_number(word, width == 2 ? UINT16_MAX : UINT8_MAX, &number))
+    if (*at + width > line->length || !read_number(word, width == 2 ? UINT16_MAX : UINT8_MAX, &number))
         return false;
     line->record[(*at)++] = (uint8_t)number;
     if (width == 2)
@@ -60,17 +65,23 @@ static bool put(struct line *line, uint8_t name, size_t *at, const char *word)
 static bool read_record(struct line *line, const char *first)
 {
     bool is_piece = strcmp(first, "PIECE") == 0;
-    uint8_t name = command_named(first);
+    uint8_t name = number_of(first, names, TRUNHOAC_DRAIN);
+    uint8_t kind = number_of(first, kinds, TOP);
     size_t at = 0;
 
+    line->is_chart = kind != 0;
+    line->length = line->is_chart ? CHART_RECORD_BYTES : sizeof line->record;
     if (name != 0)
         line->record[at++] = name;
+    else if (line->is_chart)
+        line->record[at++] = kind;
     else if (!is_piece && !put(line, name, &at, first))
         return false;
     for (const char *word = strtok(NULL, BLANKS); word != NULL; word = strtok(NULL, BLANKS))
         if (!put(line, name, &at, word))
             return false;
-    line->length = is_piece ? at : sizeof line->record;
+    if (is_piece)
+        line->length = at;
     return line->length > 0;
 }
 
@@ -98,5 +109,7 @@ bool read_words(char *text, struct line *line)
     line->is_fresh = first != NULL && strcmp(first, "FRESH") == 0;
     if (first == NULL || line->is_fresh)
         return !is_answered;
-    return is_answered && read_record(line, first) && read_reply(line, end + 1);
+    if (!read_record(line, first))
+        return false;
+    return line->is_chart ? !is_answered : is_answered && read_reply(line, end + 1);
 }

@@ -251,6 +251,11 @@ pub fn is_none(record: Record) -> bool {
     record.name == 0 && record.size == 0
 }
 
+// Whether a record is one of a chart's.
+pub fn is_chart_record(record: Record) -> bool {
+    record.name == TOP || record.name == STATE || record.name == ROW
+}
+
 fn with_word(record: Record, word: Word) -> Record {
     if record.is_wrong {
         return record;

@@ -33,9 +33,15 @@ impl Program {
     }
 
     pub fn answer(&mut self, record: &[u8]) -> [u8; REPLY_BYTES] {
+        let chart = chart_for(record, &self.charts).to_vec();
+        self.answer_with(record, &chart)
+    }
+
+    /// With a chart that is in no file.
+    pub fn answer_with(&mut self, record: &[u8], chart: &[u8]) -> [u8; REPLY_BYTES] {
         self.kernel.command(
             record,
-            chart_for(record, &self.charts),
+            chart,
             &mut self.payloads,
             &mut self.tables,
             &mut self.log,

@@ -1,4 +1,4 @@
-//! The cases that were written by hand from document 01 for the proved kernel.
+//! The cases that were written by hand from documents 01 and 02 for the proved kernel.
 
 use super::*;
 use crate::kernel::command::COMMAND_NAMES;
@@ -50,22 +50,41 @@ fn padded(begin: &[u8]) -> Vec<u8> {
     record
 }
 
-/// The model and whoever wrote the cases read the document alike.
+/// The record of a chart that a line writes out, if it does.
+fn chart_record_of(line: &str) -> Option<[u8; 8]> {
+    let (name, numbers) = line.split_once(' ')?;
+    let kind = ["STATE", "ROW", "TOP"]
+        .iter()
+        .position(|known| *known == name)?;
+    let mut record = [kind as u8 + 1, 0, 0, 0, 0, 0, 0, 0];
+    for (byte, number) in record[1..].iter_mut().zip(numbers.split(' ')) {
+        *byte = number.parse().expect("a number");
+    }
+    Some(record)
+}
+
+/// The model and whoever wrote the cases read the documents alike. The records of a chart between two commands are lent
+/// with the second; a LOAD with none before it has its slot's file.
 #[test]
 fn the_written_cases() {
     let mut program = Program::fresh(charts());
+    let mut chart = Vec::new();
     for line in CASES.lines().filter(|line| !line.starts_with('#')) {
         if line == "FRESH" {
             program = Program::fresh(charts());
+            chart.clear();
         }
+        chart.extend(chart_record_of(line).into_iter().flatten());
         let Some((command, answer)) = line.split_once('=') else {
             continue;
         };
         let bytes: Vec<u8> = answer.split_whitespace().flat_map(str::parse).collect();
-        assert_eq!(
-            program.answer(&record_of(command.trim())),
-            reply(&bytes),
-            "{line}"
-        );
+        let record = record_of(command.trim());
+        let answered = match &chart[..] {
+            [] => program.answer(&record),
+            written => program.answer_with(&record, written),
+        };
+        assert_eq!(answered, reply(&bytes), "{line}");
+        chart.clear();
     }
 }
