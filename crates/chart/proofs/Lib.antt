@@ -6,5 +6,5 @@ pub mod Accepted
 pub mod Index
 pub mod Rows
 pub mod Agree
-pub mod Leaves
+pub mod Leaf
 pub mod Theorems

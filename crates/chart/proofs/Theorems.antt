@@ -12,7 +12,7 @@ use Rattle.chart.specs.Numbers.{levels, mostActions, slotSize}
 use Rattle.chart.specs.Step.{settle, start, step}
 use Rattle.chart.proofs.Accepted.{accepted, is-state, path-longer, settled-ends, start-bound, start-state, state-of, state-up, step-bound, step-state}
 use Rattle.chart.proofs.Agree.{agrees, slot-row, start-sound, step-agrees, step-sound}
-use Rattle.chart.proofs.Leaves
+use Rattle.chart.proofs.Leaf
 use Rattle.chart.proofs.Rows.{slot-length, slot-start}
 use Rattle.chart.proofs.Steps.{settle-is, settle-longer}
 -- The cases of document 01 marked *, and an accepted chart with a step of exactly 18 actions.
@@ -75,15 +75,15 @@ module _ (d : List ℕ) (good : classOf d ≡ 0) where
 
   -- A state that is any state's parent has an initial target.
   pub parents-start : ParentsStart d
-  parents-start = Leaves.parents-start d good
+  parents-start = Leaf.parents-start d good
 
   -- A start leads to a leaf,
   pub start-leaf : leaf d (start d .next) ≡ true
-  start-leaf = Leaves.start-leaf d good
+  start-leaf = Leaf.start-leaf d good
 
   -- and so does a step from a leaf.
   pub step-leaf : (s g : ℕ) → leaf d s ≡ true → leaf d (step d s g .next) ≡ true
-  step-leaf s g h = Leaves.step-leaf d good s g h
+  step-leaf s g h = Leaf.step-leaf d good s g h
 
   -- An accepted chart and a slot of the right length: the flattener answers 0 and fills the slot.
   pub flattens : (t : List ℕ) → length t ≡ slotSize → flattened d t ≡ (0, slotBytes d)
@@ -96,8 +96,8 @@ slot-size d = slot-length d
 
 -- A leaf is a state of the chart.
 pub leaf-state : (d : List ℕ) (s : ℕ) → leaf d s ≡ true → among (states d) s ≡ true
-leaf-state d s h = Leaves.leaf-state d s h
+leaf-state d s h = Leaf.leaf-state d s h
 
 -- The check asks no more: where each state that is any state's parent has an initial target, a parent has only to be lower.
 pub asks-no-more : (d : List ℕ) → ParentsStart d → (s : ℕ) → among (states d) s ≡ true → parentOk d s (parent d s) ≡ ltb (parent d s) s
-asks-no-more d starts s h = Leaves.asks-no-more d starts s (state-of d s h)
+asks-no-more d starts s h = Leaf.asks-no-more d starts s (state-of d s h)
