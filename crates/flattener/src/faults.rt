@@ -7,8 +7,10 @@ ghost use Rattle.chart.specs.Chart.{formOk, formsOk, key, lengthOk, parentOk, p
 ghost use Rattle.chart.specs.Held.{kindAt, targetOk, within};
 ghost use Rattle.chart.specs.Numbers.{levels, mostStates};
 use chart::read::INITIAL;
+use chart::read::INITIAL_ACTION;
 use chart::read::LEVELS;
 use chart::read::MOST_STATES;
+use chart::read::PARENT;
 use chart::read::contains;
 use chart::read::field;
 use chart::read::is_among;
@@ -120,16 +122,16 @@ fn state_ok(chart: &[u8], n: usize, s: u8, part: &[u8]) -> bool
     requires { ⌜ 8 ≤ length (now part) ⌝ }
     ensures { λ r. ⌜ r ≡ stateOk n (now (chart .entry)) s (now (part .entry)) ⌝ }
 {
-    if !parent_ok(chart, s, part[1]) {
+    if !parent_ok(chart, s, part[PARENT]) {
         return false;
     }
     if !level_ok(chart, s) {
         return false;
     }
-    if part[4] == 0 {
-        return part[5] == 0;
+    if part[INITIAL] == 0 {
+        return part[INITIAL_ACTION] == 0;
     }
-    lies_within(chart, n, s, part[4])
+    lies_within(chart, n, s, part[INITIAL])
 }
 
 // Class 3: the top initial transition and the states.

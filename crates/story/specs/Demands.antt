@@ -113,7 +113,7 @@ Rests =
     (h : Story) (c : Call) (p : ℕ) → 1 ≤ p → (restOf (kernel (then h c)) p ≡ restOf (kernel h) p → ⊥) →
     (Did START h c × (argument c 1 ≡ p)) ⊎ ((Did NEXT h c × (object h c ≡ p)) ⊎ Did DRAIN h c)
 
--- "An object rested in a parent state and ignored the whole night" (document 02, request 1): every one rests in a leaf of its slot's chart.
+-- Document 02, request 1, "an object rested in a parent state": from now on every started object rests in a leaf of its slot's chart.
 abbrev pub RestsInLeaf : Type 0
 RestsInLeaf =
     (h : Story) (first : List ℕ) → OnlyKernel tableArea first h → (p : ℕ) → 1 ≤ p → started (kernel h) p ≡ true →
