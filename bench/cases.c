@@ -56,9 +56,9 @@ const struct bench_case cases[] = {
 
     /* Outcome 2 and signal 6 are 70; the four actions are the paper's "2 by 6". */
     {.name = "NEXT, mail at object 16", .call = COMMAND, .prepare = event_at_sixteen,
-     .record = {TRUNHOAC_NEXT}, .expected = {.reply = {0, 16, 70, 4, 0, 0, 22, 26, 31, 41}}},
+     .record = {TRUNHOAC_NEXT}, .expected = {.reply = {0, 16, 70, 4, 0, 0, 26, 22, 31, 41}}},
     {.name = "NEXT, mail at object 1 only", .call = COMMAND, .prepare = event_at_one,
-     .record = {TRUNHOAC_NEXT}, .expected = {.reply = {0, 1, 70, 4, 0, 0, 22, 26, 31, 41}}},
+     .record = {TRUNHOAC_NEXT}, .expected = {.reply = {0, 1, 70, 4, 0, 0, 26, 22, 31, 41}}},
 
     {.name = "END, freeing", .call = COMMAND, .prepare = event_in_hand,
      .record = {TRUNHOAC_END}, .expected = {.reply = {[VALUES] = 1}}},

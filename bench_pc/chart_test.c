@@ -81,28 +81,31 @@ static uint32_t flatten(const uint8_t *chart, size_t length, size_t slot_length)
     return chart_flatten(chart, length, slot, slot_length);
 }
 
-/* The row at the offset has these first bytes, and zeros after them. */
-static void expect_row(size_t offset, const uint8_t *first, size_t count, const char *what)
-{
-    uint8_t row[ROW_BYTES] = {0};
-    memcpy(row, first, count);
-    expect(memcmp(slot + offset, row, ROW_BYTES) == 0, what);
-}
+/* Rows of the shift chart's slot: where they begin, and what they hold. A transition's action comes before every exit. */
+static const struct {
+    size_t place;
+    uint8_t row[ROW_BYTES];
+    const char *what;
+} shift_rows[] = {
+    {0, {2, 2, 4, 10, 11, 13, 21}, "the start row"},
+    {744, {4, 2, 4, 26, 22, 31, 41}, "the row of state 2 and signal 6"},
+    {816, {2}, "the row of state 2 and signal 9, ignored"},
+    {2064, {2, 2, 7, 15, 42, 32, 12, 11, 13, 21}, "the row of state 4 and signal 5"},
+    {2112, {2, 2, 4, 37, 42, 32, 21}, "the row of state 4 and signal 7"},
+    {2136, {5, 2, 3, 38, 42, 51}, "the row of state 4 and signal 8"},
+    {2160, {4, 1, 1, 49}, "the row of state 4 and signal 9, internal"},
+    {2184, {4, 2, 4, 40, 42, 33, 41}, "the row of state 4 and signal 10"},
+    {2880, {2, 2, 5, 59, 52, 32, 13, 21}, "the row of state 5 and signal 11"},
+    {16128, {0}, "the last row, of an absent state"},
+};
 
 static void test_shift_chart(void)
 {
-    static const uint8_t start[] = {2, 2, 4, 10, 11, 13, 21};
-    static const uint8_t four_by_eight[] = {5, 2, 3, 42, 38, 51};
-    static const uint8_t two_by_nine[] = {2, 0, 0};
-    static const uint8_t absent_state[] = {0};
-
     expect(chart_check(shift_chart, SHIFT_BYTES) == 0, "the shift chart is good");
     expect(flatten(shift_chart, SHIFT_BYTES, TRUNHOAC_SLOT_BYTES) == 0, "and is flattened");
     expect(written(), "the whole slot is written, and nothing else");
-    expect_row(0, start, sizeof start, "the start row");
-    expect_row(2136, four_by_eight, sizeof four_by_eight, "the row of state 4 and signal 8");
-    expect_row(816, two_by_nine, sizeof two_by_nine, "the row of state 2 and signal 9, ignored");
-    expect_row(16128, absent_state, sizeof absent_state, "the last row, of an absent state");
+    for (size_t i = 0; i < sizeof shift_rows / sizeof shift_rows[0]; i++)
+        expect(memcmp(slot + shift_rows[i].place, shift_rows[i].row, ROW_BYTES) == 0, shift_rows[i].what);
 }
 
 static void expect_class(uint32_t class, const uint8_t *chart, size_t length, const char *what)

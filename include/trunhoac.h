@@ -102,7 +102,11 @@ enum {
     TRUNHOAC_TABLE = 15   /* the row is not sound */
 };
 
-/* What the bytes of a reply are. */
+/*
+ * What the bytes of a reply are. The actions stand in the order in which they
+ * are carried out. A transition's own action comes before every exit; then
+ * come the exits, the entries, and the initial transitions.
+ */
 enum {
     TRUNHOAC_AT_NUMBER = 0,
     TRUNHOAC_AT_OBJECT = 1,

@@ -198,7 +198,9 @@ pub enum Outcome {
     Transition,
 }
 
-/// The actions that the host carries out, in order: at most 18.
+/// The actions that the host carries out, in order: at most 18. A transition's
+/// own action comes before every exit; then come the exits, the entries, and
+/// the initial transitions.
 #[derive(Clone, Copy, Debug, PartialEq, Eq)]
 pub struct Actions {
     places: [u8; MOST_ACTIONS],

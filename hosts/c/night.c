@@ -7,9 +7,9 @@
 #include <stdio.h>
 #include <stdlib.h>
 
-enum { INFUSION_PUMP = 5, VENTILATOR = 9 };    /* objects */
-enum { NOTE = 6, READ_BACK = 8, READING = 9 }; /* signals */
-enum { SHIFT_CHART = 0, REMINDER = 0 };        /* a slot and a timer */
+enum { INFUSION_PUMP = 5, VENTILATOR = 9 };                 /* objects */
+enum { NOTE = 6, READ_BACK = 8, READING = 9, SIGNED = 11 }; /* signals */
+enum { SHIFT_CHART = 0, REMINDER = 0 };                     /* a slot and a timer */
 
 static const char *const devices[TRUNHOAC_OBJECTS + 1] = {
     [INFUSION_PUMP] = "infusion pump", [VENTILATOR] = "ventilator"};
@@ -17,10 +17,10 @@ static const char *const actions[UINT8_MAX + 1] = {
     [10] = "switch on",              [11] = "open the shift log",    [12] = "close the shift log",
     [13] = "show the ward",          [15] = "begin the shift again", [21] = "light the ready lamp",
     [22] = "put out the ready lamp", [26] = "take up the fault",     [31] = "open a note",
-    [32] = "save the note",          [33] = "begin a line",          [37] = "file the note",
+    [32] = "save the note",          [33] = "begin a line",          [37] = "date the note",
     [38] = "read the note back",     [40] = "strike the line out",   [41] = "show the keyboard",
     [42] = "hide the keyboard",      [49] = "write down a reading",  [51] = "ask for a signature",
-    [52] = "put the pen away",       [59] = "release the device",
+    [52] = "put the pen away",       [59] = "sign the note",
 };
 
 static const char *const answers[] = {"DONE", "FORM", "AREA", "RANGE", "BUSY", "NOSTEP", "IDLE", "STALE", "ABSENT",
@@ -101,12 +101,28 @@ static void post_reading(void)
     printf("The ventilator takes it: %u queued\n", values[0]);
 }
 
+static void take_step(void)
+{
+    demand("NEXT", trunhoac_fill_next(record));
+    carry_out(reply);
+    demand("END", trunhoac_fill_end(record));
+    printf("The event %s\n", values[0] == 1 ? "is freed" : "stays");
+}
+
 static void drain(void)
 {
     demand("DRAIN", trunhoac_fill_drain(record, 10));
     printf("Drained in %u steps, and %s is queued\n", values[0], values[1] == 1 ? "nothing" : "something");
     for (size_t i = 0; i < values[0]; i++)
         carry_out(steps + i * TRUNHOAC_REPLY_BYTES);
+}
+
+static void sign_note(void)
+{
+    printf("The technician signs the ventilator's note, and only then is it saved\n");
+    demand("NEW", trunhoac_fill_new(record, SIGNED, NULL, 0));
+    demand("POST", trunhoac_fill_post(record, trunhoac_handle_in(reply), VENTILATOR, 0));
+    take_step();
 }
 
 static void read_and_release(struct trunhoac_handle note)
@@ -130,12 +146,8 @@ int main(int argc, char **argv)
     post_reading();
     demand("HOLD", trunhoac_fill_hold(record, note));
     printf("The technician keeps the first note: %u hold%s\n", values[0], values[0] == 1 ? "" : "s");
-    for (int i = 0; i < 2; i++) {
-        demand("NEXT", trunhoac_fill_next(record));
-        carry_out(reply);
-        demand("END", trunhoac_fill_end(record));
-        printf("The event %s\n", values[0] == 1 ? "is freed" : "stays");
-    }
+    for (int i = 0; i < 2; i++)
+        take_step();
     demand("ARM", trunhoac_fill_arm(record, REMINDER, VENTILATOR, READ_BACK, 2, 0));
     printf("A reminder is armed\n");
     for (int i = 0; i < 2; i++) {
@@ -144,6 +156,7 @@ int main(int argc, char **argv)
     }
     drain();
     printf("Next: %s\n", ask(trunhoac_fill_next(record)));
+    sign_note();
     read_and_release(note);
     return EXIT_SUCCESS;
 }

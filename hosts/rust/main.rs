@@ -14,6 +14,7 @@ const REMINDER: u8 = 0;
 const FAULT: u8 = 6;
 const SIGN: u8 = 8;
 const READING: u8 = 9;
+const SIGNED: u8 = 11;
 
 fn main() -> Result<(), Box<dyn Error>> {
     let path = env::args_os().nth(1).ok_or("usage: night CHART")?;
@@ -24,6 +25,7 @@ fn main() -> Result<(), Box<dyn Error>> {
     take_step(&mut kernel)?;
     remind(&mut kernel)?;
     work_off(&mut kernel)?;
+    sign_note(&mut kernel)?;
     read_back(&mut kernel, note)
 }
 
@@ -83,6 +85,13 @@ fn work_off(kernel: &mut Kernel) -> Result<(), Box<dyn Error>> {
     Ok(())
 }
 
+fn sign_note(kernel: &mut Kernel) -> Result<(), Refusal> {
+    println!("The technician signs the ventilator's note, and only then is it saved");
+    let signature = kernel.new(SIGNED, &[])?;
+    kernel.post(signature, VENTILATOR, 0)?;
+    take_step(kernel)
+}
+
 fn read_back(kernel: &mut Kernel, note: Handle) -> Result<(), Box<dyn Error>> {
     let payload: Vec<String> = kernel.read(note)?.iter().map(u8::to_string).collect();
     println!("The note that was kept: {}", payload.join(" "));
@@ -135,7 +144,7 @@ fn action_name(action: u8) -> &'static str {
         31 => "open a note",
         32 => "save the note",
         33 => "begin a line",
-        37 => "file the note",
+        37 => "date the note",
         38 => "read the note back",
         40 => "strike the line out",
         41 => "show the keyboard",
@@ -143,7 +152,7 @@ fn action_name(action: u8) -> &'static str {
         49 => "write down a reading",
         51 => "ask for a signature",
         52 => "put the pen away",
-        59 => "release the device",
+        59 => "sign the note",
         _ => "unknown action",
     }
 }

@@ -127,7 +127,7 @@ fn steps_tell_what_the_chart_makes_of_a_signal() {
         (steps[0].outcome, steps[0].event),
         (Outcome::Transition, Event::Block(fault))
     );
-    assert_eq!(*steps[0].actions, [22, 26, 31, 41]);
+    assert_eq!(*steps[0].actions, [26, 22, 31, 41]);
     assert_eq!((steps[1].signal, steps[1].outcome), (9, Outcome::Internal));
     assert_eq!((&*steps[1].actions, steps.len()), (&[49][..], 2));
 }
@@ -175,7 +175,7 @@ fn charts_are_refused_by_class() {
     assert_eq!(chart_flatten(SHIFT_CHART, &mut slot), Err(Chart(5)));
     assert_eq!(slot, vec![7; SLOT_BYTES + 1]);
     assert_eq!(chart_flatten(SHIFT_CHART, &mut slot[..SLOT_BYTES]), Ok(()));
-    assert_eq!(slot[2136..2142], [5, 2, 3, 42, 38, 51]);
+    assert_eq!(slot[2136..2142], [5, 2, 3, 38, 42, 51]);
     assert_eq!(slot[2142..2160], [0; 18]);
     assert_eq!(slot[SLOT_BYTES], 7);
 }

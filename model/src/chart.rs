@@ -263,8 +263,8 @@ impl Chart {
             };
         };
         let mut walk = Walk::at_rest(self, rest);
+        walk.list(row.action);
         if row.kind == INTERNAL {
-            walk.list(row.action);
             return Step {
                 outcome: Outcome::Internal,
                 ..walk.finish()
@@ -272,7 +272,6 @@ impl Chart {
         }
         walk.exit_up_to_level(self.level(row.state));
         walk.exit_up_to_level(self.levels_kept(row.state, row.target));
-        walk.list(row.action);
         walk.enter_down_to(row.target);
         walk.take_initial_transitions();
         walk.finish()
@@ -486,12 +485,12 @@ mod tests {
     #[test]
     fn shift_transitions() {
         let chart = shift_chart();
-        assert_eq!(chart.step(2, 6), moved(4, &[22, 26, 31, 41]));
-        assert_eq!(chart.step(4, 8), moved(5, &[42, 38, 51]));
-        assert_eq!(chart.step(4, 10), moved(4, &[42, 40, 33, 41]));
-        assert_eq!(chart.step(4, 7), moved(2, &[42, 32, 37, 21]));
-        assert_eq!(chart.step(5, 11), moved(2, &[52, 32, 59, 13, 21]));
-        assert_eq!(chart.step(4, 5), moved(2, &[42, 32, 12, 15, 11, 13, 21]));
+        assert_eq!(chart.step(2, 6), moved(4, &[26, 22, 31, 41]));
+        assert_eq!(chart.step(4, 8), moved(5, &[38, 42, 51]));
+        assert_eq!(chart.step(4, 10), moved(4, &[40, 42, 33, 41]));
+        assert_eq!(chart.step(4, 7), moved(2, &[37, 42, 32, 21]));
+        assert_eq!(chart.step(5, 11), moved(2, &[59, 52, 32, 13, 21]));
+        assert_eq!(chart.step(4, 5), moved(2, &[15, 42, 32, 12, 11, 13, 21]));
     }
 
     #[test]
@@ -515,7 +514,7 @@ mod tests {
         let mut slot = vec![0xee; SLOT_BYTES];
         assert_eq!(flatten(&shift(), &mut slot), GOOD);
         assert_eq!(row_offset(4, 8), 2_136);
-        assert_eq!(slot[2_136..2_142], [5, 2, 3, 42, 38, 51]);
+        assert_eq!(slot[2_136..2_142], [5, 2, 3, 38, 42, 51]);
         assert_eq!(slot[2_142..2_160], [0; 18]);
     }
 

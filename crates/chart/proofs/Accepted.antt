@@ -323,9 +323,9 @@ module _ (d : List ℕ) (acc : Accepted d) where
   unfolding moved
   moved-bound x s t a h i g =
       let l = limit d s t in
-      let p = leave d (upTo s (outward d x)) in
-      let q = leave d (upTo l (outward d s)) in
-      let r = listed a in
+      let p = listed a in
+      let q = leave d (upTo s (outward d x)) in
+      let r = leave d (upTo l (outward d s)) in
       let u = enter d (upTo l (outward d t)) in
       let v = settling levels d t in
       let e0 = length-append (p ++ (q ++ (r ++ u))) v in

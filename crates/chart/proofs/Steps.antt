@@ -49,10 +49,15 @@ module _ (d : List ℕ) where
   settle-out t l = rw (settle-is levels t l, push-append noActs l (settling levels d t))
 
   pub moved-out : (x s t a l : ℕ) → l ≡ limit d s t
-      → settledOut d t (pushAll (pushAll (pushAll (pushAll noActs (leave d (upTo s (path levels d x)))) (leave d (upTo l (path levels d s)))) (listed a)) (enter d (upTo l (path levels d t))))
+      → settledOut d t (pushAll (pushAll (pushAll (pushAll noActs (listed a)) (leave d (upTo s (path levels d x)))) (leave d (upTo l (path levels d s)))) (enter d (upTo l (path levels d t))))
       ≡ outOf (moved d x s t a)
   unfolding moved
   moved-out x s t a l e = rw (e) (ap (settledOut d t) (push-append _ _ _ ∙ push-append _ _ _ ∙ push-append _ _ _) ∙ sym (settle-out t _))
+
+  -- a transition lists its action first, then what it lists without one
+  pub action-first : (x s t a : ℕ) → moved d x s t a .acts ≡ listed a ++ moved d x s t 0 .acts
+  unfolding moved listed
+  action-first x s t a = rw (settle-is levels t _, settle-is levels t _, append-assoc)
 
   pub start-out : settledOut d (topTarget d) (pushAll (pushAll noActs (listed (topAction d))) (enter d (upTo 0 (path levels d (topTarget d))))) ≡ outOf (start d)
   unfolding start

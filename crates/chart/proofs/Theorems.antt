@@ -1,6 +1,6 @@
 -- What is proved of charts and their tables. A chart d is accepted if `classOf d ≡ 0`, and s is a state of it if `among (states d) s ≡ true`.
 use mathlib.Core.Bool.{true}
-use mathlib.Core.List.{List}
+use mathlib.Core.List.{List, _++_}
 use mathlib.Core.Path.{_≡_}
 use Prim.Native.Nat.{ℕ, _+_, _≤_}
 use borrow.Author.Tests.{eq-eqb}
@@ -9,13 +9,14 @@ use lib.ListN.{length}
 use Rattle.chart.specs.Chart.{ParentsStart, classOf, among, initial, isSignal, leaf, outward, parent, parentOk, path, states}
 use Rattle.chart.specs.Flat.{Agrees, answerOf, flattened, place, rowAt, rowOf, slotBytes, sound}
 use Rattle.chart.specs.Numbers.{levels, mostActions, slotSize}
-use Rattle.chart.specs.Step.{settle, start, step}
+use Rattle.chart.specs.Step.{listed, moved, settle, start, step}
 use Rattle.chart.proofs.Accepted.{accepted, is-state, path-longer, settled-ends, start-bound, start-state, state-of, state-up, step-bound, step-state}
 use Rattle.chart.proofs.Agree.{agrees, slot-row, start-sound, step-agrees, step-sound}
 use Rattle.chart.proofs.Leaf
 use Rattle.chart.proofs.Rows.{slot-length, slot-start}
+use Rattle.chart.proofs.Steps
 use Rattle.chart.proofs.Steps.{settle-is, settle-longer}
--- The cases of document 01 marked *, and an accepted chart with a step of exactly 18 actions.
+-- The cases of document 01 marked *, as document 02's request 2 has them, and an accepted chart with a step of exactly 18 actions.
 pub use Rattle.chart.specs.Shift.{shift-stated}
 pub use Rattle.chart.specs.Deep.{deep-reaches}
 
@@ -89,6 +90,10 @@ module _ (d : List ℕ) (good : classOf d ≡ 0) where
   pub flattens : (t : List ℕ) → length t ≡ slotSize → flattened d t ≡ (0, slotBytes d)
   unfolding flattened
   flattens t e = rw (eq-eqb (classOf d) 0 good, eq-eqb (length t) slotSize e)
+
+-- A transition's action comes before every exit and everything else, and the others are listed as if it had none.
+pub action-first : (d : List ℕ) (x s t a : ℕ) → moved d x s t a .acts ≡ listed a ++ moved d x s t 0 .acts
+action-first d x s t a = Steps.action-first d x s t a
 
 -- A slot's bytes are as many as a slot has, whatever the chart.
 pub slot-size : (d : List ℕ) → length (slotBytes d) ≡ slotSize

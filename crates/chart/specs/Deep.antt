@@ -27,7 +27,7 @@ pub record Reaches : Type 0 where
   pub good : classOf deep ≡ 0
   pub actions :
       step deep 6 4 .acts
-      ≡ 26 ∷ 25 ∷ 24 ∷ 23 ∷ 22 ∷ 21 ∷ 40 ∷ 11 ∷ 31 ∷ 12 ∷ 32 ∷ 13 ∷ 33 ∷ 14 ∷ 34 ∷ 15 ∷ 35 ∷ 16 ∷ []
+      ≡ 40 ∷ 26 ∷ 25 ∷ 24 ∷ 23 ∷ 22 ∷ 21 ∷ 11 ∷ 31 ∷ 12 ∷ 32 ∷ 13 ∷ 33 ∷ 14 ∷ 34 ∷ 15 ∷ 35 ∷ 16 ∷ []
   pub count : length (step deep 6 4 .acts) ≡ mostActions
 
 pub deep-reaches : Reaches

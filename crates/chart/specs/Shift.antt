@@ -1,4 +1,4 @@
--- The shift chart of document 01, and its cases marked * as one table.
+-- The shift chart of document 01, and its cases marked * as one table, in the order of actions that document 02's request 2 gives them.
 use mathlib.Core.Bool.{cond}
 use mathlib.Core.List.{List, [], _∷_, map}
 use mathlib.Core.Path.{_≡_, refl}
@@ -42,25 +42,25 @@ was s g o n l = record { rest = s; signal = g; answer = record { next = n; outco
 pub cases : List Case
 cases =
     was 0 0 2 2 (10 ∷ 11 ∷ 13 ∷ 21 ∷ [])
-    ∷ was 2 6 2 4 (22 ∷ 26 ∷ 31 ∷ 41 ∷ [])
+    ∷ was 2 6 2 4 (26 ∷ 22 ∷ 31 ∷ 41 ∷ [])
     ∷ was 4 9 1 4 (49 ∷ [])
-    ∷ was 4 8 2 5 (42 ∷ 38 ∷ 51 ∷ [])
-    ∷ was 4 10 2 4 (42 ∷ 40 ∷ 33 ∷ 41 ∷ [])
-    ∷ was 4 7 2 2 (42 ∷ 32 ∷ 37 ∷ 21 ∷ [])
-    ∷ was 5 11 2 2 (52 ∷ 32 ∷ 59 ∷ 13 ∷ 21 ∷ [])
-    ∷ was 4 5 2 2 (42 ∷ 32 ∷ 12 ∷ 15 ∷ 11 ∷ 13 ∷ 21 ∷ [])
+    ∷ was 4 8 2 5 (38 ∷ 42 ∷ 51 ∷ [])
+    ∷ was 4 10 2 4 (40 ∷ 42 ∷ 33 ∷ 41 ∷ [])
+    ∷ was 4 7 2 2 (37 ∷ 42 ∷ 32 ∷ 21 ∷ [])
+    ∷ was 5 11 2 2 (59 ∷ 52 ∷ 32 ∷ 13 ∷ 21 ∷ [])
+    ∷ was 4 5 2 2 (15 ∷ 42 ∷ 32 ∷ 12 ∷ 11 ∷ 13 ∷ 21 ∷ [])
     ∷ was 2 9 0 2 []
     ∷ []
 
 pub given : Case → Answer
 given k = cond (eqb (k .rest) 0) (start shift) (step shift (k .rest) (k .signal))
 
--- The chart is a good one; the definitions give what document 01 states, in every case; and the row of (4, 8) stands where it says.
+-- The chart is a good one; the definitions give what the documents state, in every case; and the row of (4, 8) stands where they say.
 pub record Stated : Type 0 where
   pub good : classOf shift ≡ 0
   pub answers : map given cases ≡ map (λ k. k .answer) cases
   pub begins : place 4 8 ≡ 2136
-  pub row : rowAt (slotBytes shift) 2136 ≡ 5 ∷ 2 ∷ 3 ∷ 42 ∷ 38 ∷ 51 ∷ replicate 18 0
+  pub row : rowAt (slotBytes shift) 2136 ≡ 5 ∷ 2 ∷ 3 ∷ 38 ∷ 42 ∷ 51 ∷ replicate 18 0
 
 pub shift-stated : Stated
 unfolding shift cases was given Range.firstFrom Range.everyFrom Chart.byte Chart.parent Chart.states Chart.rowFor Chart.path Chart.has Chart.lengthOk Chart.among Chart.isSignal Bytes.blank Bytes.padded Chart.formOk Chart.formsOk Chart.parentOk Chart.stateOk Chart.treeOk Chart.rowOk Chart.rowsOk Chart.classOf Step.listed Step.upTo Step.leave Step.enter Step.firstOf Step.limit Step.settle Step.moved Step.step Step.start Flat.rowOf Flat.rowNo Flat.rowsFrom Flat.slotBytes Flat.place

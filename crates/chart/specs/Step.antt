@@ -1,4 +1,4 @@
--- Document 01, "A step.": what a chart d does with a signal.
+-- Document 01, "A step.", and document 02, request 2: what a chart d does with a signal.
 use mathlib.Core.Bool.{Bool, cond}
 use mathlib.Core.List.{List, [], _∷_, _++_}
 use Prim.Native.Nat.{ℕ, zero, suc}
@@ -51,13 +51,13 @@ settle (suc k) d s l =
     cond (eqb t 0) (record { next = s; outcome = 2; acts = l })
     (settle k d t (l ++ (listed (initialAction d s) ++ enter d (upTo s (outward d t)))))
 
--- The transition from rest x by a row of the source s with target t and action a: exits from x to s and from s, the action, entries to t.
+-- The transition from rest x by a row of the source s with target t and action a: the action, exits from x to s and from s, entries to t.
 unfoldable pub moved : List ℕ → ℕ → ℕ → ℕ → ℕ → Answer
 moved d x s t a =
     settle levels d t
-    (leave d (upTo s (outward d x))
+    (listed a
+    ++ (leave d (upTo s (outward d x))
     ++ (leave d (upTo (limit d s t) (outward d s))
-    ++ (listed a
     ++ enter d (upTo (limit d s t) (outward d t)))))
 
 -- Row i is (2, state, signal, kind, target, action, 0, 0), kind 0 internal.

@@ -5,7 +5,7 @@
 //     event 32 1                        NEXT: the event's block and generation; or the number of the timer
 //     values 5 0                        any other command that was done: its two values
 //     class 2                           CHART: the class of the fault
-//     count 4  actions 22 26 31 41      the count and the actions; for READ bytes of the payload
+//     count 4  actions 26 22 31 41      the count and the actions; for READ bytes of the payload
 // What is no reply of the kernel is told as such: a number above 15, and a last piece that is shorter than a record.
 use numbers::REPLY_BYTES;
 use numbers::answer;

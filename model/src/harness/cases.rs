@@ -96,8 +96,8 @@ mod tests {
     #[test]
     fn a_good_chart_shows_its_rows() {
         let text = expected();
-        assert!(text.starts_with("class 0\n0: 2 2 4 10 11 13 21\n48: 2 2 5 12 15 11 13 21\n"));
-        assert!(text.contains("\n2136: 5 2 3 42 38 51\n"));
+        assert!(text.starts_with("class 0\n0: 2 2 4 10 11 13 21\n48: 2 2 5 15 12 11 13 21\n"));
+        assert!(text.contains("\n2136: 5 2 3 38 42 51\n"));
     }
 
     #[test]

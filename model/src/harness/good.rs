@@ -238,7 +238,7 @@ mod tests {
         assert_eq!((start.next, &start.actions[..]), (next, actions));
     }
 
-    /// A transition worked out by hand from document 01.
+    /// A transition worked out by hand from the documents.
     fn assert_moves(chart: &Chart, (rest, signal): (u8, u8), next: u8, actions: &[u8]) {
         assert_step(chart, (rest, signal), Outcome::Transition, next, actions);
     }
@@ -270,17 +270,17 @@ mod tests {
     fn six_levels_steps() {
         let chart = chart(six_levels());
         assert_start(&chart, 6, &[10, 11, 13, 21, 31, 33, 41, 43, 51, 53, 61]);
-        assert_moves(&chart, (4, 4), 6, &[42, 34, 41, 51, 53, 61]);
-        assert_moves(&chart, (6, 4), 6, &[62, 52, 64, 43, 51, 53, 61]);
+        assert_moves(&chart, (4, 4), 6, &[34, 42, 41, 51, 53, 61]);
+        assert_moves(&chart, (6, 4), 6, &[64, 62, 52, 43, 51, 53, 61]);
         assert_step(&chart, (2, 4), Outcome::Internal, 2, &[14]);
-        let down_again = [62, 52, 42, 32, 22, 15, 21, 31, 41, 51, 61];
+        let down_again = [15, 62, 52, 42, 32, 22, 21, 31, 41, 51, 61];
         assert_moves(&chart, (6, 5), 6, &down_again);
-        assert_moves(&chart, (4, 5), 6, &[42, 32, 22, 15, 21, 31, 41, 51, 61]);
-        let by_initial = [62, 52, 42, 32, 22, 25, 21, 23, 31, 41, 51, 61];
+        assert_moves(&chart, (4, 5), 6, &[15, 42, 32, 22, 21, 31, 41, 51, 61]);
+        let by_initial = [25, 62, 52, 42, 32, 22, 21, 23, 31, 41, 51, 61];
         assert_moves(&chart, (6, 6), 6, &by_initial);
-        let around = [62, 52, 42, 32, 22, 67, 13, 21, 31, 33, 41, 43, 51, 53, 61];
+        let around = [67, 62, 52, 42, 32, 22, 13, 21, 31, 33, 41, 43, 51, 53, 61];
         assert_moves(&chart, (6, 7), 6, &around);
-        let to_third = [62, 52, 42, 59, 33, 41, 43, 51, 53, 61];
+        let to_third = [59, 62, 52, 42, 33, 41, 43, 51, 53, 61];
         assert_moves(&chart, (6, 31), 6, &to_third);
         assert_step(&chart, (4, 7), Outcome::Ignored, 4, &[]);
     }
@@ -310,15 +310,15 @@ mod tests {
         // Turn (4 - 4 + 1) % 28 = 1: a transition to 2, action 29 + 36; 2's initial target is 8.
         assert_moves(&chart, (1, 4), 8, &[65, 20, 22, 80]);
         // Turn (31 - 4 + 6) % 28 = 5: the self transition of 6, action 174 + 279 - 256.
-        assert_moves(&chart, (6, 31), 6, &[61, 197, 60]);
+        assert_moves(&chart, (6, 31), 6, &[197, 61, 60]);
         // Turn (30 - 4 + 6) % 28 = 4: to 5 around 6, action 174 + 270 - 256, and in again.
-        assert_moves(&chart, (6, 30), 6, &[61, 188, 52, 60]);
+        assert_moves(&chart, (6, 30), 6, &[188, 61, 52, 60]);
         // Turn (27 - 4 + 24) % 28 = 19: from 24 to 20, action 696 + 243 - 768.
-        assert_moves(&chart, (24, 27), 20, &[241, 171, 110, 190, 200]);
+        assert_moves(&chart, (24, 27), 20, &[171, 241, 110, 190, 200]);
         // Turn (26 - 4 + 24) % 28 = 18: from 24 to 19, action 696 + 234 - 768, and on to 20.
-        assert_moves(&chart, (24, 26), 20, &[241, 162, 110, 190, 192, 200]);
+        assert_moves(&chart, (24, 26), 20, &[162, 241, 110, 190, 192, 200]);
         // Turn (31 - 4 + 19) % 28 = 18: the self transition of 19, action 551 + 279 - 768.
-        assert_moves(&chart, (19, 31), 20, &[191, 62, 190, 192, 200]);
+        assert_moves(&chart, (19, 31), 20, &[62, 191, 190, 192, 200]);
         // Turn (4 - 4 + 24) % 28 = 24: internal, action 696 + 36 - 512.
         assert_step(&chart, (24, 4), Outcome::Internal, 24, &[220]);
     }
@@ -327,32 +327,32 @@ mod tests {
     fn self_at_top_steps() {
         let chart = chart(self_at_top());
         assert_start(&chart, 3, &[10, 11, 13, 21, 31]);
-        assert_moves(&chart, (3, 4), 3, &[32, 22, 12, 14, 11, 13, 21, 31]);
-        assert_moves(&chart, (1, 4), 3, &[12, 14, 11, 13, 21, 31]);
-        assert_moves(&chart, (5, 5), 3, &[52, 22, 25, 21, 23, 31]);
-        assert_moves(&chart, (3, 6), 3, &[32, 36, 31]);
-        assert_moves(&chart, (4, 7), 4, &[42, 47, 41]);
-        assert_moves(&chart, (4, 8), 7, &[42, 48, 61, 71]);
-        assert_moves(&chart, (7, 9), 7, &[72, 62, 69, 61, 63, 71]);
-        assert_moves(&chart, (6, 9), 7, &[62, 69, 61, 63, 71]);
-        assert_moves(&chart, (7, 8), 5, &[72, 62, 68, 11, 21, 51]);
+        assert_moves(&chart, (3, 4), 3, &[14, 32, 22, 12, 11, 13, 21, 31]);
+        assert_moves(&chart, (1, 4), 3, &[14, 12, 11, 13, 21, 31]);
+        assert_moves(&chart, (5, 5), 3, &[25, 52, 22, 21, 23, 31]);
+        assert_moves(&chart, (3, 6), 3, &[36, 32, 31]);
+        assert_moves(&chart, (4, 7), 4, &[47, 42, 41]);
+        assert_moves(&chart, (4, 8), 7, &[48, 42, 61, 71]);
+        assert_moves(&chart, (7, 9), 7, &[69, 72, 62, 61, 63, 71]);
+        assert_moves(&chart, (6, 9), 7, &[69, 62, 61, 63, 71]);
+        assert_moves(&chart, (7, 8), 5, &[68, 72, 62, 11, 21, 51]);
     }
 
     #[test]
     fn around_and_inside_steps() {
         let chart = chart(around_and_inside());
         assert_start(&chart, 4, &[10, 11, 13, 21, 31, 33, 41]);
-        assert_moves(&chart, (4, 4), 4, &[42, 44, 33, 41]);
-        assert_moves(&chart, (5, 5), 5, &[52, 32, 55, 23, 31, 51]);
-        assert_moves(&chart, (4, 6), 4, &[42, 32, 22, 46, 13, 21, 31, 33, 41]);
-        assert_moves(&chart, (4, 7), 5, &[42, 32, 22, 17, 21, 31, 51]);
-        assert_moves(&chart, (6, 7), 5, &[62, 17, 21, 31, 51]);
+        assert_moves(&chart, (4, 4), 4, &[44, 42, 33, 41]);
+        assert_moves(&chart, (5, 5), 5, &[55, 52, 32, 23, 31, 51]);
+        assert_moves(&chart, (4, 6), 4, &[46, 42, 32, 22, 13, 21, 31, 33, 41]);
+        assert_moves(&chart, (4, 7), 5, &[17, 42, 32, 22, 21, 31, 51]);
+        assert_moves(&chart, (6, 7), 5, &[17, 62, 21, 31, 51]);
         assert_moves(&chart, (1, 7), 5, &[17, 21, 31, 51]);
-        assert_moves(&chart, (5, 8), 4, &[52, 32, 28, 31, 33, 41]);
-        assert_moves(&chart, (6, 9), 5, &[62, 19, 21, 23, 31, 51]);
-        assert_moves(&chart, (5, 10), 5, &[52, 30, 51]);
-        assert_moves(&chart, (5, 11), 4, &[52, 32, 22, 39, 13, 21, 31, 33, 41]);
-        assert_moves(&chart, (6, 12), 6, &[62, 16, 61]);
+        assert_moves(&chart, (5, 8), 4, &[28, 52, 32, 31, 33, 41]);
+        assert_moves(&chart, (6, 9), 5, &[19, 62, 21, 23, 31, 51]);
+        assert_moves(&chart, (5, 10), 5, &[30, 52, 51]);
+        assert_moves(&chart, (5, 11), 4, &[39, 52, 32, 22, 13, 21, 31, 33, 41]);
+        assert_moves(&chart, (6, 12), 6, &[16, 62, 61]);
     }
 
     #[test]
@@ -362,16 +362,16 @@ mod tests {
         let up = [62, 52, 42, 32, 22, 12];
         let other_down = [71, 73, 81, 83, 91, 93, 101, 103, 111, 113, 121];
         let other_up = [122, 112, 102, 92, 82, 72];
-        let way = |up: &[u8], action: &[u8], down: &[u8]| [up, action, down].concat();
+        let way = |action: &[u8], up: &[u8], down: &[u8]| [action, up, down].concat();
 
-        let longest = way(&up, &[14], &down);
+        let longest = way(&[14], &up, &down);
         assert_eq!(longest.len(), MOST_ACTIONS);
         assert_moves(&chart, (6, 4), 6, &longest);
-        assert_moves(&chart, (6, 5), 12, &way(&up, &[15], &other_down));
-        assert_moves(&chart, (6, 6), 12, &way(&up, &[66], &other_down));
-        assert_moves(&chart, (6, 7), 6, &way(&up, &[], &down));
-        assert_moves(&chart, (12, 5), 6, &way(&other_up, &[125], &down));
-        assert_start(&chart, 6, &way(&[], &[10], &down));
+        assert_moves(&chart, (6, 5), 12, &way(&[15], &up, &other_down));
+        assert_moves(&chart, (6, 6), 12, &way(&[66], &up, &other_down));
+        assert_moves(&chart, (6, 7), 6, &way(&[], &up, &down));
+        assert_moves(&chart, (12, 5), 6, &way(&[125], &other_up, &down));
+        assert_start(&chart, 6, &way(&[10], &[], &down));
     }
 
     #[test]
@@ -388,18 +388,18 @@ mod tests {
         assert_moves(&chart, (3, 7), 5, &[37]);
         assert_moves(&chart, (3, 8), 4, &[41]);
         assert_step(&chart, (4, 9), Outcome::Internal, 4, &[49]);
-        assert_moves(&chart, (4, 10), 3, &[42, 40, 21]);
+        assert_moves(&chart, (4, 10), 3, &[40, 42, 21]);
     }
 
     #[test]
     fn many_tops_steps() {
         let chart = chart(many_tops());
         assert_start(&chart, 5, &[10, 31, 41, 43, 51]);
-        assert_moves(&chart, (5, 4), 2, &[52, 42, 32, 54, 11, 13, 21]);
-        assert_moves(&chart, (4, 4), 2, &[42, 32, 34, 11, 21]);
-        assert_moves(&chart, (5, 20), 6, &[52, 42, 32, 50, 61]);
-        assert_moves(&chart, (2, 31), 6, &[22, 12, 19, 61]);
-        assert_moves(&chart, (6, 4), 5, &[62, 64, 31, 41, 43, 51]);
-        assert_moves(&chart, (6, 31), 5, &[62, 69, 31, 41, 51]);
+        assert_moves(&chart, (5, 4), 2, &[54, 52, 42, 32, 11, 13, 21]);
+        assert_moves(&chart, (4, 4), 2, &[34, 42, 32, 11, 21]);
+        assert_moves(&chart, (5, 20), 6, &[50, 52, 42, 32, 61]);
+        assert_moves(&chart, (2, 31), 6, &[19, 22, 12, 61]);
+        assert_moves(&chart, (6, 4), 5, &[64, 62, 31, 41, 43, 51]);
+        assert_moves(&chart, (6, 31), 5, &[69, 62, 31, 41, 51]);
     }
 }

@@ -103,7 +103,7 @@ mod tests {
         assert_eq!(lines[0], "chart shift states 5");
         assert_eq!(lines[1], "row 0: 2 2 4 10 11 13 21");
         // State 1 by signal 5, its self transition.
-        assert_eq!(lines[2], "row 48: 2 2 5 12 15 11 13 21");
-        assert!(text.contains("\nrow 2136: 5 2 3 42 38 51\n"));
+        assert_eq!(lines[2], "row 48: 2 2 5 15 12 11 13 21");
+        assert!(text.contains("\nrow 2136: 5 2 3 38 42 51\n"));
     }
 }

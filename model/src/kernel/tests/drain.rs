@@ -63,8 +63,8 @@ fn the_log_has_one_next_answer_per_step() {
     bench.post(signal_6, 9);
     bench.expect(Drain { budget: 255 }, &[0, 0, 0, 0, 3, 1]);
     let lines = [
-        reply(&[0, 9, 64 + 6, 4, 0, 0, 22, 26, 31, 41]),
-        reply(&[0, 5, 64 + 6, 4, 0, 0, 22, 26, 31, 41]),
+        reply(&[0, 9, 64 + 6, 4, 0, 0, 26, 22, 31, 41]),
+        reply(&[0, 5, 64 + 6, 4, 0, 0, 26, 22, 31, 41]),
         reply(&[0, 5, 32 + 9, 1, 32, 0, 49]),
     ];
     assert_eq!(bench.log[..72], lines.concat());

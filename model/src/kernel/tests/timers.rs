@@ -72,7 +72,7 @@ fn disarm_leaves_a_queued_entry() {
     // Armed anew with another signal: the queued entry keeps the old one.
     bench.expect(arm(7, 5, 31, 1, 0), &[0]);
     bench.expect(Tick, &[0, 0, 0, 0, 1, 0]);
-    bench.expect(Next, &[0, 5, 64 + 6, 4, 135, 0, 22, 26, 31, 41]);
+    bench.expect(Next, &[0, 5, 64 + 6, 4, 135, 0, 26, 22, 31, 41]);
     bench.expect(End, &[0]);
     bench.expect(Next, &[0, 5, 31, 0, 135, 0]);
 }
