@@ -57,7 +57,7 @@ module _ (d : List ℕ) where
   -- a transition lists its action first, then what it lists without one
   pub action-first : (x s t a : ℕ) → moved d x s t a .acts ≡ listed a ++ moved d x s t 0 .acts
   unfolding moved listed
-  action-first x s t a = rw (settle-is levels t _, settle-is levels t _, append-assoc)
+  action-first x s t a = ap (λ r. r .acts) (settle-is levels t _) ∙ append-assoc (listed a) _ _ ∙ sym (ap (λ r. listed a ++ r .acts) (settle-is levels t _))
 
   pub start-out : settledOut d (topTarget d) (pushAll (pushAll noActs (listed (topAction d))) (enter d (upTo 0 (path levels d (topTarget d))))) ≡ outOf (start d)
   unfolding start
