@@ -81,31 +81,38 @@ static uint32_t flatten(const uint8_t *chart, size_t length, size_t slot_length)
     return chart_flatten(chart, length, slot, slot_length);
 }
 
-/* Rows of the shift chart's slot: where they begin, and what they hold. A transition's action comes before every exit. */
-static const struct {
+/* A row of a slot: where it begins, and its bytes. A transition's own action comes before every exit. */
+struct row {
     size_t place;
-    uint8_t row[ROW_BYTES];
+    uint8_t bytes[ROW_BYTES];
     const char *what;
-} shift_rows[] = {
-    {0, {2, 2, 4, 10, 11, 13, 21}, "the start row"},
-    {744, {4, 2, 4, 26, 22, 31, 41}, "the row of state 2 and signal 6"},
-    {816, {2}, "the row of state 2 and signal 9, ignored"},
-    {2064, {2, 2, 7, 15, 42, 32, 12, 11, 13, 21}, "the row of state 4 and signal 5"},
-    {2112, {2, 2, 4, 37, 42, 32, 21}, "the row of state 4 and signal 7"},
-    {2136, {5, 2, 3, 38, 42, 51}, "the row of state 4 and signal 8"},
-    {2160, {4, 1, 1, 49}, "the row of state 4 and signal 9, internal"},
-    {2184, {4, 2, 4, 40, 42, 33, 41}, "the row of state 4 and signal 10"},
-    {2880, {2, 2, 5, 59, 52, 32, 13, 21}, "the row of state 5 and signal 11"},
-    {16128, {0}, "the last row, of an absent state"},
 };
+
+static void expect_rows(const struct row *rows, size_t count)
+{
+    for (const struct row *row = rows; row < rows + count; row++)
+        expect(memcmp(slot + row->place, row->bytes, ROW_BYTES) == 0, row->what);
+}
 
 static void test_shift_chart(void)
 {
+    static const struct row rows[] = {
+        {0, {2, 2, 4, 10, 11, 13, 21}, "the start row"},
+        {744, {4, 2, 4, 26, 22, 31, 41}, "the row of state 2 and signal 6"},
+        {816, {2, 0, 0}, "the row of state 2 and signal 9, ignored"},
+        {2064, {2, 2, 7, 15, 42, 32, 12, 11, 13, 21}, "the row of state 4 and signal 5"},
+        {2112, {2, 2, 4, 37, 42, 32, 21}, "the row of state 4 and signal 7"},
+        {2136, {5, 2, 3, 38, 42, 51}, "the row of state 4 and signal 8"},
+        {2160, {4, 1, 1, 49}, "the row of state 4 and signal 9, internal"},
+        {2184, {4, 2, 4, 40, 42, 33, 41}, "the row of state 4 and signal 10"},
+        {2880, {2, 2, 5, 59, 52, 32, 13, 21}, "the row of state 5 and signal 11"},
+        {16128, {0}, "the last row, of an absent state"},
+    };
+
     expect(chart_check(shift_chart, SHIFT_BYTES) == 0, "the shift chart is good");
     expect(flatten(shift_chart, SHIFT_BYTES, TRUNHOAC_SLOT_BYTES) == 0, "and is flattened");
     expect(written(), "the whole slot is written, and nothing else");
-    for (size_t i = 0; i < sizeof shift_rows / sizeof shift_rows[0]; i++)
-        expect(memcmp(slot + shift_rows[i].place, shift_rows[i].row, ROW_BYTES) == 0, shift_rows[i].what);
+    expect_rows(rows, sizeof rows / sizeof rows[0]);
 }
 
 static void expect_class(uint32_t class, const uint8_t *chart, size_t length, const char *what)
@@ -177,22 +184,20 @@ static void test_three_levels(void)
         1, 2, 31, 32, 0, 0,  0, 0, /* state 3 */
         2, 1, 4,  1,  1, 14, 0, 0, /* the only row */
     };
-    static const uint8_t start[] = {3, 2, 6, 10, 11, 13, 21, 23, 31};
-    static const uint8_t one_by_four[] = {3, 2, 7, 12, 14, 11, 13, 21, 23, 31};
-    static const uint8_t two_by_four[] = {3, 2, 8, 22, 12, 14, 11, 13, 21, 23, 31};
-    static const uint8_t two_by_five[] = {2, 0, 0};
-    static const uint8_t three_by_four[] = {3, 2, 9, 32, 22, 12, 14, 11, 13, 21, 23, 31};
+    static const struct row rows[] = {
+        {0, {3, 2, 6, 10, 11, 13, 21, 23, 31}, "the start row, down to state 3"},
+        {24, {3, 2, 7, 14, 12, 11, 13, 21, 23, 31}, "the row of state 1, a parent, and signal 4"},
+        {696, {3, 2, 8, 14, 22, 12, 11, 13, 21, 23, 31}, "the row of state 2, a parent, and signal 4"},
+        {720, {2, 0, 0}, "the row of state 2 and signal 5, ignored"},
+        {1368, {3, 2, 9, 14, 32, 22, 12, 11, 13, 21, 23, 31}, "the row of state 3 and signal 4"},
+    };
 
     expect_class(3, chart, sizeof chart, "class 3: only the parent of the parent has no start");
     with(with(chart, RECORD_BYTES + 4, 2), RECORD_BYTES + 5, 13);
     expect(chart_check(chart, sizeof chart) == 0, "with a start it is good");
     expect(flatten(chart, sizeof chart, TRUNHOAC_SLOT_BYTES) == 0, "and is flattened");
     expect(written(), "the whole slot is written, and nothing else");
-    expect_row(0, start, sizeof start, "the start row, down to state 3");
-    expect_row(24, one_by_four, sizeof one_by_four, "the row of state 1, a parent, and signal 4");
-    expect_row(696, two_by_four, sizeof two_by_four, "the row of state 2, a parent, and signal 4");
-    expect_row(720, two_by_five, sizeof two_by_five, "the row of state 2 and signal 5, ignored");
-    expect_row(1368, three_by_four, sizeof three_by_four, "the row of state 3 and signal 4");
+    expect_rows(rows, sizeof rows / sizeof rows[0]);
 }
 
 static void test_slot_lengths(void)
