@@ -253,7 +253,8 @@ impl Chart {
         walk.finish()
     }
 
-    /// The step from a state of rest, which must be a state of the chart.
+    /// The step from a state of rest, which must be a state of the chart. The row's
+    /// action comes first, whatever its kind.
     pub fn step(&self, rest: u8, signal: u8) -> Step {
         let Some(row) = self.row_for(rest, signal) else {
             return Step {
