@@ -2,7 +2,7 @@
 
 enum { COUNT = TRUNHOAC_AT_COUNT, VALUES = TRUNHOAC_AT_VALUES, PAYLOAD = TRUNHOAC_HEAD_BYTES };
 
-/* The replies are written by hand from document 01: DONE is 0, and so are the bytes that are not named. */
+/* The replies are written by hand from the documents: DONE is 0, and so are the bytes that are not named. */
 const struct bench_case cases[] = {
     {.name = "empty loop", .call = NOTHING, .prepare = all_started},
     {.name = "copy of the kernel", .call = COPY, .prepare = all_started},
@@ -90,6 +90,13 @@ const struct bench_case cases[] = {
      .record = {TRUNHOAC_DRAIN, 255}, .expected = {.reply = {[VALUES] = 16, 1}}},
     {.name = "DRAIN, 255 steps", .call = COMMAND, .prepare = queued_255_times, .steps = 255,
      .record = {TRUNHOAC_DRAIN, 255}, .expected = {.reply = {[VALUES] = 255, 1}}},
+
+    {.name = "DEFER", .call = COMMAND, .prepare = event_in_hand,
+     .record = {TRUNHOAC_DEFER, 0}, .expected = {.reply = {[VALUES] = 1}}},
+    {.name = "RECALL, nothing set aside", .call = COMMAND, .prepare = all_started,
+     .record = {TRUNHOAC_RECALL, 0, 9}, .expected = {.reply = {[VALUES] = 0}}},
+    {.name = "FLUSH, nothing set aside", .call = COMMAND, .prepare = all_started,
+     .record = {TRUNHOAC_FLUSH, 0}, .expected = {.reply = {[VALUES] = 0}}},
 
     {.name = "chart_check, shift chart", .call = CHECK, .prepare = all_started, .chart = SHIFT_CHART,
      .expected = {.class = 0}},

@@ -1,4 +1,4 @@
-/* What is timed: for each case a state, one call on it, and the answer that document 01 gives. */
+/* What is timed: for each case a state, one call on it, and the answer that the documents give. */
 #ifndef BENCH_CASES_H
 #define BENCH_CASES_H
 
@@ -38,7 +38,7 @@ struct bench_case {
     int steps; /* of a DRAIN, whose time is also said for one step; otherwise 0 */
 };
 
-/* The empty loop and the copy come first, then the commands as document 01 has them. */
+/* The empty loop and the copy come first, then the commands as the documents have them. */
 enum { EMPTY_LOOP, KERNEL_COPY, FIRST_OF_LIBRARY };
 
 extern const struct bench_case cases[];

@@ -2,8 +2,8 @@
  * Trunhoac for a host in C: the event kernel, the chart check and the flattener.
  *
  * Every call is proved. For any bytes that it is handed it answers, never
- * traps, and writes what document 01 says and nothing else. What the proofs
- * count on, and the host owes:
+ * traps, and writes what documents 01 and 02 say and nothing else. What the
+ * proofs count on, and the host owes:
  *
  *   - behind each pointer are as many bytes as its length says (a pointer whose
  *     length is 0 is never followed and may be NULL), or as its type says;
@@ -29,7 +29,7 @@ extern "C" {
 
 /* The kernel's memory, of this size and alignment. What it holds is the kernel's own. */
 struct trunhoac_kernel {
-    uint16_t memory[771];
+    uint16_t memory[907];
 };
 
 /* The lengths of a record, of a reply and of the three areas that the host lends. */
@@ -49,13 +49,15 @@ enum {
     TRUNHOAC_SLOT_BYTES = 16152
 };
 
-/* How many there are of each: objects are numbered from 1, their priority; timers and slots from 0. */
+/* How many there are of each: objects are numbered from 1, their priority; timers, slots and side queues from 0. */
 enum {
     TRUNHOAC_OBJECTS = 16,
     TRUNHOAC_MOST_DEPTH = 16,
     TRUNHOAC_TIMERS = 16,
     TRUNHOAC_FIRST_TIMER = 128, /* how the value of a NEXT tells timer 0 */
     TRUNHOAC_SLOTS = 4,
+    TRUNHOAC_SIDE_QUEUES = 8,
+    TRUNHOAC_MOST_ASIDE = 8, /* entries of one side queue */
     TRUNHOAC_FIRST_SIGNAL = 4,
     TRUNHOAC_LAST_SIGNAL = 31
 };
@@ -79,7 +81,10 @@ enum {
     TRUNHOAC_DISARM = 15,
     TRUNHOAC_TICK = 16,
     TRUNHOAC_READ = 17,
-    TRUNHOAC_DRAIN = 18
+    TRUNHOAC_DRAIN = 18,
+    TRUNHOAC_DEFER = 19,
+    TRUNHOAC_RECALL = 20,
+    TRUNHOAC_FLUSH = 21
 };
 
 /* The first byte of a reply. After a refusal only the reply is written. */
@@ -91,10 +96,10 @@ enum {
     TRUNHOAC_BUSY = 4,    /* a step is open */
     TRUNHOAC_NOSTEP = 5,  /* none is */
     TRUNHOAC_IDLE = 6,    /* nothing is queued */
-    TRUNHOAC_STALE = 7,   /* the handle is stale */
+    TRUNHOAC_STALE = 7,   /* the handle is stale, the event to be set aside is a timer's */
     TRUNHOAC_ABSENT = 8,  /* the object is not started, the slot is not loaded */
     TRUNHOAC_TAKEN = 9,   /* the object is started, the slot in use, the timer armed */
-    TRUNHOAC_FULL = 10,   /* no place in the mailbox */
+    TRUNHOAC_FULL = 10,   /* no place in the mailbox, in the side queue */
     TRUNHOAC_DRY = 11,    /* no free block in the pool */
     TRUNHOAC_HOLDS = 12,  /* HOLD at 15, RELEASE at 0 */
     TRUNHOAC_INUSE = 13,  /* DROP of an event that is counted */
@@ -193,7 +198,7 @@ static inline uint8_t trunhoac_signal(const uint8_t *reply)
     return reply[TRUNHOAC_AT_OUTCOME] % 32;
 }
 
-/* ---- Records: each function fills one with a command, and returns it; p is an object's priority ---- */
+/* ---- Records: each function fills one with a command, and returns it; p is a priority, q a side queue ---- */
 
 static inline const uint8_t *trunhoac_fill(uint8_t *record, uint8_t command,
                                            uint8_t first, uint8_t second, uint8_t third, uint8_t fourth)
@@ -305,6 +310,23 @@ static inline const uint8_t *trunhoac_fill_read(uint8_t *record, struct trunhoac
 static inline const uint8_t *trunhoac_fill_drain(uint8_t *record, uint8_t budget)
 {
     return trunhoac_fill(record, TRUNHOAC_DRAIN, budget, 0, 0, 0);
+}
+
+/* The event in hand is set aside, and the step stays open. END frees no event that is set aside. */
+static inline const uint8_t *trunhoac_fill_defer(uint8_t *record, uint8_t q)
+{
+    return trunhoac_fill(record, TRUNHOAC_DEFER, q, 0, 0, 0);
+}
+
+/* The oldest entry goes to the front of p's mailbox. Where nothing is set aside, that is no refusal: the value is 0. */
+static inline const uint8_t *trunhoac_fill_recall(uint8_t *record, uint8_t q, uint8_t p)
+{
+    return trunhoac_fill(record, TRUNHOAC_RECALL, q, p, 0, 0);
+}
+
+static inline const uint8_t *trunhoac_fill_flush(uint8_t *record, uint8_t q)
+{
+    return trunhoac_fill(record, TRUNHOAC_FLUSH, q, 0, 0, 0);
 }
 
 #ifdef __cplusplus

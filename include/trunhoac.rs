@@ -1,8 +1,8 @@
 //! Trunhoac for a host in Rust: the event kernel, the chart check and the flattener, as safe calls.
 //!
 //! Take this file in by `#[path = "..."] mod trunhoac;` or copy it, and link the library. It uses `core` and
-//! `alloc` alone, and Rust 1.82 or later. Each command of document 01 is a method of [`Kernel`]. The library answers
-//! any argument, so an argument out of range is refused and no method panics.
+//! `alloc` alone, and Rust 1.82 or later. Each command of documents 01 and 02 is a method of [`Kernel`]. The library
+//! answers any argument, so an argument out of range is refused and no method panics.
 
 extern crate alloc;
 
@@ -32,10 +32,10 @@ const FIRST_TIMER: u8 = 128;
 #[repr(C)]
 #[derive(Clone)]
 struct Memory {
-    words: [u16; 771],
+    words: [u16; 907],
 }
 
-const _: () = assert!(size_of::<Memory>() == 1_542 && align_of::<Memory>() == 2);
+const _: () = assert!(size_of::<Memory>() == 1_814 && align_of::<Memory>() == 2);
 
 /// The library's calls.
 mod library {
@@ -105,13 +105,13 @@ pub enum Refusal {
     Busy,       // a step is open
     NoStep,     // no step is open
     Idle,       // nothing is queued
-    Stale,      // the handle is stale
+    Stale,      // the handle is stale, or the event to be set aside is a timer's
     Absent,     // the object is not started, or the slot is not loaded
     Taken,      // the object is started, the slot is in use, or the timer is armed
-    Full,       // there is no place in the mailbox
+    Full,       // there is no place in the mailbox or in the side queue
     Dry,        // there is no free block in the pool
     Holds,      // the event has 15 holds, or none to release
-    InUse,      // the event is queued, held or in hand, so it cannot be dropped
+    InUse,      // the event is queued, set aside, held or in hand, so it cannot be dropped
     Chart(u32), // the lowest class of the chart's faults; 5 is a slot of another length
     Table,      // the row is not sound; one that a LOAD wrote always is
 }
@@ -354,6 +354,9 @@ enum Command {
     Tick,
     Read,
     Drain,
+    Defer,
+    Recall,
+    Flush,
 }
 
 /// A record of a command and its arguments; what they leave is 0.
@@ -391,7 +394,7 @@ impl Kernel {
     /// A fresh kernel.
     pub fn fresh() -> Kernel {
         let mut parts = Box::new(Parts {
-            memory: Memory { words: [0; 771] },
+            memory: Memory { words: [0; 907] },
             payloads: [0; PAYLOAD_AREA],
             tables: [0; TABLE_AREA],
             log: [[0; REPLY_BYTES]; LOG_LINES],
@@ -533,6 +536,22 @@ impl Kernel {
         };
         let lines = &self.parts.log[..usize::from(steps)]; // a u8 is never above LOG_LINES
         Ok(Drained { steps, end, lines })
+    }
+
+    /// DEFER: sets the event in hand aside, last in a side queue, 0 to 7, which takes eight; answers how many it has.
+    /// The step stays open.
+    pub fn defer(&mut self, side: u8) -> Result<u8, Refusal> {
+        Ok(self.ask(Command::Defer, &[side])?.first())
+    }
+
+    /// RECALL: moves a side queue's oldest entry to the front of an object's mail; answers whether there was one.
+    pub fn recall(&mut self, side: u8, object: u8) -> Result<bool, Refusal> {
+        Ok(self.ask(Command::Recall, &[side, object])?.first() == 1)
+    }
+
+    /// FLUSH: lets go of all entries of a side queue; answers how many there were.
+    pub fn flush(&mut self, side: u8) -> Result<u8, Refusal> {
+        Ok(self.ask(Command::Flush, &[side])?.first())
     }
 
     fn ask_of(&mut self, command: Command, event: Handle) -> Result<Reply, Refusal> {

@@ -7,9 +7,9 @@
 #include <stdio.h>
 #include <stdlib.h>
 
-enum { INFUSION_PUMP = 5, VENTILATOR = 9 };                 /* objects */
-enum { NOTE = 6, READ_BACK = 8, READING = 9, SIGNED = 11 }; /* signals */
-enum { SHIFT_CHART = 0, REMINDER = 0 };                     /* a slot and a timer */
+enum { INFUSION_PUMP = 5, VENTILATOR = 9 };                                    /* objects */
+enum { RECORD_LOADED = 5, NOTE = 6, READ_BACK = 8, READING = 9, SIGNED = 11 }; /* signals */
+enum { SHIFT_CHART = 0, REMINDER = 0, EARLY_NOTES = 0 };                       /* a slot, a timer and a side queue */
 
 static const char *const devices[TRUNHOAC_OBJECTS + 1] = {
     [INFUSION_PUMP] = "infusion pump", [VENTILATOR] = "ventilator"};
@@ -51,6 +51,11 @@ static void demand(const char *command, const uint8_t *filled)
     }
 }
 
+static const char *plural(uint8_t count)
+{
+    return count == 1 ? "" : "s";
+}
+
 /* The reply to START or NEXT, or a line of DRAIN's log, says who has to do what. A start has no signal. */
 static void carry_out(const uint8_t *step)
 {
@@ -60,7 +65,7 @@ static void carry_out(const uint8_t *step)
         printf(", signal %u", trunhoac_signal(step));
     for (size_t i = 0; i < step[TRUNHOAC_AT_COUNT]; i++)
         printf("%s %s", i == 0 ? ":" : ";", actions[todo[i]] != NULL ? actions[todo[i]] : "an unknown action");
-    printf("\n");
+    printf("%s\n", step[TRUNHOAC_AT_COUNT] == 0 ? ": nothing to do" : "");
 }
 
 static void begin(const char *chart_path)
@@ -101,12 +106,24 @@ static void post_reading(void)
     printf("The ventilator takes it: %u queued\n", values[0]);
 }
 
-static void take_step(void)
+/* Answers the event's handle. */
+static struct trunhoac_handle open_step(void)
 {
     demand("NEXT", trunhoac_fill_next(record));
     carry_out(reply);
+    return trunhoac_handle_in(reply);
+}
+
+static void close_step(void)
+{
     demand("END", trunhoac_fill_end(record));
     printf("The event %s\n", values[0] == 1 ? "is freed" : "stays");
+}
+
+static void take_step(void)
+{
+    open_step();
+    close_step();
 }
 
 static void drain(void)
@@ -117,25 +134,58 @@ static void drain(void)
         carry_out(steps + i * TRUNHOAC_REPLY_BYTES);
 }
 
+static void post_new(uint8_t signal, const uint8_t *bytes, uint8_t size, uint8_t device)
+{
+    demand("NEW", trunhoac_fill_new(record, signal, bytes, size));
+    demand("POST", trunhoac_fill_post(record, trunhoac_handle_in(reply), device, 0));
+}
+
+static void set_note_aside(void)
+{
+    static const uint8_t bytes[] = {4, 5, 6};
+    printf("A note for the infusion pump comes before its device record has loaded\n");
+    post_new(NOTE, bytes, sizeof bytes, INFUSION_PUMP);
+    open_step();
+    demand("DEFER", trunhoac_fill_defer(record, EARLY_NOTES));
+    printf("Set aside: %u note%s\n", values[0], plural(values[0]));
+    close_step();
+}
+
 static void sign_note(void)
 {
     printf("The technician signs the ventilator's note, and only then is it saved\n");
-    demand("NEW", trunhoac_fill_new(record, SIGNED, NULL, 0));
-    demand("POST", trunhoac_fill_post(record, trunhoac_handle_in(reply), VENTILATOR, 0));
+    post_new(SIGNED, NULL, 0, VENTILATOR);
     take_step();
+}
+
+static void show_bytes(const char *what, struct trunhoac_handle event)
+{
+    size_t place, length;
+    demand("READ", trunhoac_fill_read(record, event));
+    trunhoac_read(&kernel, record, sizeof record, payloads, sizeof payloads, &place, &length);
+    printf("%s:", what);
+    for (size_t i = 0; i < length; i++)
+        printf(" %u", payloads[place + i]);
+    printf("\n");
+}
+
+static void recall_note(void)
+{
+    printf("The infusion pump's device record has loaded\n");
+    post_new(RECORD_LOADED, NULL, 0, INFUSION_PUMP);
+    open_step();
+    demand("RECALL", trunhoac_fill_recall(record, EARLY_NOTES, INFUSION_PUMP));
+    printf("Recalled: %u note%s\n", values[0], plural(values[0]));
+    close_step();
+    show_bytes("The note that was set aside", open_step());
+    close_step();
 }
 
 static void read_and_release(struct trunhoac_handle note)
 {
-    size_t place, length;
-    demand("READ", trunhoac_fill_read(record, note));
-    trunhoac_read(&kernel, record, sizeof record, payloads, sizeof payloads, &place, &length);
-    printf("The note that was kept:");
-    for (size_t i = 0; i < length; i++)
-        printf(" %u", payloads[place + i]);
+    show_bytes("The note that was kept", note);
     demand("RELEASE", trunhoac_fill_release(record, note));
-    printf("\nReleased: %u hold%s, the event %s\n", values[0], values[0] == 1 ? "" : "s",
-           values[1] == 1 ? "is freed" : "stays");
+    printf("Released: %u hold%s, the event %s\n", values[0], plural(values[0]), values[1] == 1 ? "is freed" : "stays");
     printf("Read again: %s\n", ask(trunhoac_fill_read(record, note)));
 }
 
@@ -145,7 +195,7 @@ int main(int argc, char **argv)
     struct trunhoac_handle note = publish_note();
     post_reading();
     demand("HOLD", trunhoac_fill_hold(record, note));
-    printf("The technician keeps the first note: %u hold%s\n", values[0], values[0] == 1 ? "" : "s");
+    printf("The technician keeps the first note: %u hold%s\n", values[0], plural(values[0]));
     for (int i = 0; i < 2; i++)
         take_step();
     demand("ARM", trunhoac_fill_arm(record, REMINDER, VENTILATOR, READ_BACK, 2, 0));
@@ -156,7 +206,9 @@ int main(int argc, char **argv)
     }
     drain();
     printf("Next: %s\n", ask(trunhoac_fill_next(record)));
+    set_note_aside();
     sign_note();
+    recall_note();
     read_and_release(note);
     return EXIT_SUCCESS;
 }

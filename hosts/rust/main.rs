@@ -1,7 +1,7 @@
 //! The night of samples/night/commands.txt as a host in Rust. Its argument names the file with the shift chart.
 
 use std::{env, error::Error, fs};
-use trunhoac::{Actions, DrainEnd, Handle, Kernel, Refusal, Released, Step, Ticked};
+use trunhoac::{Actions, DrainEnd, Event, Handle, Kernel, Refusal, Released, Step, Ticked};
 
 #[path = "../../include/trunhoac.rs"]
 #[allow(dead_code)] // a night does not use every command
@@ -11,6 +11,8 @@ const VENTILATOR: u8 = 9;
 const INFUSION_PUMP: u8 = 5;
 const SHIFT_CHART: u8 = 0;
 const REMINDER: u8 = 0;
+const EARLY_NOTES: u8 = 0;
+const RECORD_LOADED: u8 = 5;
 const FAULT: u8 = 6;
 const SIGN: u8 = 8;
 const READING: u8 = 9;
@@ -25,7 +27,9 @@ fn main() -> Result<(), Box<dyn Error>> {
     take_step(&mut kernel)?;
     remind(&mut kernel)?;
     work_off(&mut kernel)?;
+    set_note_aside(&mut kernel)?;
     sign_note(&mut kernel)?;
+    recall_note(&mut kernel)?;
     read_back(&mut kernel, note)
 }
 
@@ -56,7 +60,17 @@ fn send_notes(kernel: &mut Kernel) -> Result<Handle, Box<dyn Error>> {
 }
 
 fn take_step(kernel: &mut Kernel) -> Result<(), Refusal> {
-    show(&kernel.next()?);
+    open_step(kernel)?;
+    close_step(kernel)
+}
+
+fn open_step(kernel: &mut Kernel) -> Result<Event, Refusal> {
+    let step = kernel.next()?;
+    show(&step);
+    Ok(step.event)
+}
+
+fn close_step(kernel: &mut Kernel) -> Result<(), Refusal> {
     let fate = if kernel.end()? { "is freed" } else { "stays" };
     println!("The event {fate}");
     Ok(())
@@ -85,6 +99,16 @@ fn work_off(kernel: &mut Kernel) -> Result<(), Box<dyn Error>> {
     Ok(())
 }
 
+fn set_note_aside(kernel: &mut Kernel) -> Result<(), Refusal> {
+    println!("A note for the infusion pump comes before its device record has loaded");
+    let note = kernel.new(FAULT, &[4, 5, 6])?;
+    kernel.post(note, INFUSION_PUMP, 0)?;
+    open_step(kernel)?;
+    let aside = kernel.defer(EARLY_NOTES)?;
+    println!("Set aside: {}", counted(aside, "note"));
+    close_step(kernel)
+}
+
 fn sign_note(kernel: &mut Kernel) -> Result<(), Refusal> {
     println!("The technician signs the ventilator's note, and only then is it saved");
     let signature = kernel.new(SIGNED, &[])?;
@@ -92,14 +116,33 @@ fn sign_note(kernel: &mut Kernel) -> Result<(), Refusal> {
     take_step(kernel)
 }
 
+fn recall_note(kernel: &mut Kernel) -> Result<(), Box<dyn Error>> {
+    println!("The infusion pump's device record has loaded");
+    let loaded = kernel.new(RECORD_LOADED, &[])?;
+    kernel.post(loaded, INFUSION_PUMP, 0)?;
+    open_step(kernel)?;
+    let recalled = kernel.recall(EARLY_NOTES, INFUSION_PUMP)?;
+    println!("Recalled: {}", counted(recalled.into(), "note"));
+    close_step(kernel)?;
+    let Event::Block(note) = open_step(kernel)? else {
+        return Err("the note was expected".into());
+    };
+    println!("The note that was set aside: {}", payload(kernel, note)?);
+    Ok(close_step(kernel)?)
+}
+
 fn read_back(kernel: &mut Kernel, note: Handle) -> Result<(), Box<dyn Error>> {
-    let payload: Vec<String> = kernel.read(note)?.iter().map(u8::to_string).collect();
-    println!("The note that was kept: {}", payload.join(" "));
+    println!("The note that was kept: {}", payload(kernel, note)?);
     let Released { holds, freed } = kernel.release(note)?;
     let fate = if freed { "is freed" } else { "stays" };
     println!("Released: {}, the event {fate}", counted(holds, "hold"));
     println!("Read again: {}", refused(kernel.read(note))?);
     Ok(())
+}
+
+fn payload(kernel: &mut Kernel, event: Handle) -> Result<String, Refusal> {
+    let bytes: Vec<String> = kernel.read(event)?.iter().map(u8::to_string).collect();
+    Ok(bytes.join(" "))
 }
 
 /// The refusal that the night counts on; an answer in its place is an error.
@@ -114,6 +157,9 @@ fn show(step: &Step) {
 
 /// A real host would do what this one only names.
 fn carry_out(actions: &Actions) -> String {
+    if actions.is_empty() {
+        return "nothing to do".into();
+    }
     let names: Vec<&str> = actions.iter().map(|&action| action_name(action)).collect();
     names.join("; ")
 }

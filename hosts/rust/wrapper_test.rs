@@ -155,6 +155,66 @@ fn timers_fire_by_ascending_number() {
 }
 
 #[test]
+fn side_queues_keep_events() {
+    let mut kernel = started(1);
+    assert_eq!(kernel.defer(0), Err(NoStep));
+    let event = kernel.new(6, &[1, 2]).unwrap();
+    assert_eq!(kernel.post(event, 9, 0), Ok(1));
+    assert!(kernel.next().is_ok());
+    for aside in 1..=8 {
+        assert_eq!(kernel.defer(7), Ok(aside));
+    }
+    assert_eq!((kernel.defer(7), kernel.defer(8)), (Err(Full), Err(Range)));
+    assert_eq!(kernel.end(), Ok(false));
+    assert_eq!(kernel.drop(event), Err(InUse));
+    assert_eq!(kernel.recall(7, 5), Ok(true));
+    assert_eq!(
+        (kernel.recall(7, 5), kernel.recall(6, 5)),
+        (Err(Full), Ok(false))
+    );
+    let step = kernel.next().unwrap();
+    assert_eq!((step.object, step.event), (5, Event::Block(event)));
+    assert_eq!(kernel.read(event), Ok(&[1, 2][..]));
+    assert_eq!(kernel.end(), Ok(false));
+    assert_eq!((kernel.flush(7), kernel.flush(7)), (Ok(7), Ok(0)));
+    assert_eq!(kernel.read(event), Err(Stale));
+}
+
+#[test]
+fn the_oldest_is_recalled_to_the_front() {
+    let mut kernel = started(3);
+    let [first, second, third] = [6, 9, 31].map(|signal| kernel.new(signal, &[]).unwrap());
+    for (event, side, aside) in [(first, 0, 1), (second, 0, 2), (third, 1, 1)] {
+        assert_eq!(kernel.post(event, 9, 0), Ok(1));
+        assert!(kernel.next().is_ok());
+        assert_eq!((kernel.defer(side), kernel.end()), (Ok(aside), Ok(false)));
+    }
+    for side in [0, 0, 1] {
+        assert_eq!(kernel.recall(side, 5), Ok(true));
+    }
+    let drained = kernel.drain(255).unwrap();
+    let events: Vec<Event> = drained.log().map(|step| step.event).collect();
+    assert_eq!(events, [third, second, first].map(Event::Block));
+}
+
+#[test]
+fn side_queues_refuse() {
+    let mut kernel = started(1);
+    assert_eq!(kernel.recall(8, 5), Err(Range));
+    assert_eq!(
+        (kernel.recall(0, 0), kernel.recall(0, 17)),
+        (Err(Range), Err(Range))
+    );
+    assert_eq!(kernel.recall(0, 3), Err(Absent));
+    assert_eq!(kernel.flush(8), Err(Range));
+    assert_eq!(kernel.arm(0, 9, 6, 1, 0), Ok(()));
+    assert_eq!(kernel.tick(), Ok(Ticked { fired: 1, late: 0 }));
+    assert!(kernel.next().is_ok());
+    assert_eq!(kernel.defer(0), Err(Stale));
+    assert_eq!(kernel.recall(0, 5), Ok(false));
+}
+
+#[test]
 fn charts_are_refused_by_class() {
     let mut without_start = changed(28, 0);
     without_start[29] = 0; // state 3, a parent, has no initial transition now

@@ -66,6 +66,7 @@ static void test_change(int change)
     expect(answer_with(change, trunhoac_fill_read(record, event)) == TRUNHOAC_AREA, "READ");
     expect_nothing_named(change, record);
     expect(answer_with(change, trunhoac_fill_tick(record)) == TRUNHOAC_DONE, "TICK, which uses no area");
+    expect(answer_with(change, trunhoac_fill_flush(record, 0)) == TRUNHOAC_DONE, "FLUSH, which uses none either");
     expect(untouched(), "the areas are as they were");
 }
 

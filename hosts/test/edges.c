@@ -11,7 +11,7 @@
 
 enum side { AT_THE_END, AT_THE_START };
 
-enum { LAST_OBJECT = TRUNHOAC_OBJECTS, LAST_LARGE_BLOCK = 55, MOVES = 6 };
+enum { LAST_OBJECT = TRUNHOAC_OBJECTS, LAST_SIDE = TRUNHOAC_SIDE_QUEUES - 1, LAST_LARGE_BLOCK = 55, MOVES = 6 };
 
 static struct {
     struct trunhoac_kernel *kernel;
@@ -56,6 +56,32 @@ static void done(const uint8_t *filled)
     expect(lent.reply[TRUNHOAC_AT_NUMBER] == TRUNHOAC_DONE, "the command is done");
 }
 
+/*
+ * The first and the last place of the side queues' rings: each turn moves the front of the last one a place on, so that
+ * the entries of the full side queue then end where its ring does. The mail is in the end as it was.
+ */
+static void use_side_queues(void)
+{
+    uint8_t *record = lent.record;
+
+    for (int turn = 0; turn < TRUNHOAC_MOST_ASIDE; turn++) {
+        done(trunhoac_fill_next(record));
+        done(trunhoac_fill_defer(record, LAST_SIDE));
+        done(trunhoac_fill_end(record));
+        done(trunhoac_fill_recall(record, LAST_SIDE, LAST_OBJECT));
+    }
+    done(trunhoac_fill_next(record));
+    for (int place = 0; place < TRUNHOAC_MOST_ASIDE; place++) {
+        done(trunhoac_fill_defer(record, 0));
+        done(trunhoac_fill_defer(record, LAST_SIDE));
+    }
+    done(trunhoac_fill_end(record));
+    done(trunhoac_fill_recall(record, LAST_SIDE, LAST_OBJECT));
+    done(trunhoac_fill_flush(record, 0));
+    done(trunhoac_fill_flush(record, LAST_SIDE));
+    expect(lent.reply[TRUNHOAC_AT_VALUES] == TRUNHOAC_MOST_ASIDE - 1, "all entries are let go but the one recalled");
+}
+
 /* The first and the last of what there is: slots, blocks, objects, places of a mailbox, lines of the log. */
 static void use_edges(void)
 {
@@ -74,6 +100,7 @@ static void use_edges(void)
     for (int place = 0; place < TRUNHOAC_MOST_DEPTH; place++)
         for (uint8_t p = 1; p <= LAST_OBJECT; p++)
             done(trunhoac_fill_post(record, place == 0 ? first : last, p, 0));
+    use_side_queues();
     done(trunhoac_fill_next(record));
     done(trunhoac_fill_end(record));
     done(trunhoac_fill_read(record, last));

@@ -5,7 +5,7 @@
  */
 #include "test.h"
 
-enum { BLOCKS = 56, OBJECTS = 16, PLACES = 16, SIGNAL_PLACES = 32, SLOTS = 4, TIMERS = 16 };
+enum { BLOCKS = 56, OBJECTS = 16, PLACES = 16, SIDES = 8, SIGNAL_PLACES = 32, SLOTS = 4, TIMERS = 16 };
 
 struct pool {
     uint8_t gens[BLOCKS];
@@ -20,6 +20,9 @@ struct kernel {
     uint16_t places[OBJECTS * PLACES]; /* 1 + b is block b, 64 + 32 t + g timer t with signal g */
     uint8_t heads[OBJECTS];
     uint8_t counts[OBJECTS];
+    uint16_t side_places[SIDES * PLACES]; /* blocks alone */
+    uint8_t side_heads[SIDES];
+    uint8_t side_counts[SIDES];
     uint8_t depths[OBJECTS];
     uint8_t rests[OBJECTS];
     uint8_t seats[OBJECTS];
@@ -36,6 +39,7 @@ _Static_assert(sizeof(struct kernel) == sizeof(struct trunhoac_kernel), "the hea
 _Static_assert(_Alignof(struct kernel) == _Alignof(struct trunhoac_kernel), "and its alignment");
 
 static const struct trunhoac_handle first_block = {0, 0};
+static const struct trunhoac_handle second_block = {1, 0};
 static const struct trunhoac_handle last_block = {BLOCKS - 1, 0};
 
 static uint8_t record[TRUNHOAC_RECORD_BYTES];
@@ -115,14 +119,26 @@ static uint16_t entry(size_t object, size_t from_front)
     return k.places[PLACES * object + (k.heads[object] + from_front) % PLACES];
 }
 
-static void test_mail(void)
+/* So do those of a side queue. */
+static uint16_t side_entry(size_t side, size_t from_front)
+{
+    return k.side_places[PLACES * side + (k.side_heads[side] + from_front) % PLACES];
+}
+
+/* The first block at both objects, and the second behind it at object 16. */
+static void queue_blocks(void)
 {
     start_objects();
     done(trunhoac_fill_new(record, 6, NULL, 0));
     done(trunhoac_fill_new(record, 7, NULL, 0));
     done(trunhoac_fill_post(record, first_block, 1, 0));
     done(trunhoac_fill_post(record, first_block, OBJECTS, 0));
-    done(trunhoac_fill_post(record, (struct trunhoac_handle){1, 0}, OBJECTS, 0));
+    done(trunhoac_fill_post(record, second_block, OBJECTS, 0));
+}
+
+static void test_mail(void)
+{
+    queue_blocks();
     expect(k.counts[0] == 1 && k.counts[1] == 0 && k.counts[OBJECTS - 1] == 2, "how many are queued");
     expect(entry(0, 0) == 1, "the first mailbox");
     expect(entry(OBJECTS - 1, 0) == 1 && entry(OBJECTS - 1, 1) == 2, "the last mailbox");
@@ -134,6 +150,31 @@ static void test_mail(void)
     expect(k.rests[OBJECTS - 1] == 2 && k.rests[0] == 1, "the new state of rest");
     done(trunhoac_fill_end(record));
     expect(k.hand == 0, "nothing is in hand");
+}
+
+static void test_side_queues(void)
+{
+    queue_blocks();
+    done(trunhoac_fill_next(record));
+    done(trunhoac_fill_defer(record, 0));
+    done(trunhoac_fill_defer(record, SIDES - 1));
+    expect(k.hand == 1, "the block is still in hand");
+    expect(k.pool.counts[0] == 5, "at object 1, in hand, and set aside twice");
+    done(trunhoac_fill_end(record));
+    done(trunhoac_fill_next(record));
+    done(trunhoac_fill_defer(record, SIDES - 1));
+    expect(k.side_counts[0] == 1 && k.side_counts[1] == 0 && k.side_counts[SIDES - 1] == 2, "how many are set aside");
+    expect(side_entry(0, 0) == 1, "the first side queue");
+    expect(side_entry(SIDES - 1, 0) == 1 && side_entry(SIDES - 1, 1) == 2, "the last side queue");
+    uint8_t head = k.side_heads[SIDES - 1];
+
+    done(trunhoac_fill_recall(record, SIDES - 1, OBJECTS));
+    expect(k.side_heads[SIDES - 1] == (head + 1) % PLACES && k.side_counts[SIDES - 1] == 1, "the oldest has left");
+    expect(entry(OBJECTS - 1, 0) == 1, "and is at the front of the last mailbox");
+    expect(k.pool.counts[0] == 4, "which changes no count");
+    done(trunhoac_fill_flush(record, SIDES - 1));
+    expect(k.side_counts[SIDES - 1] == 0 && k.side_counts[0] == 1, "one side queue is empty, the other is as it was");
+    expect(k.pool.counts[1] == 2, "the second block is in hand alone");
 }
 
 static void test_timers(void)
@@ -162,5 +203,6 @@ void test_layout(void)
     test_blocks();
     test_objects();
     test_mail();
+    test_side_queues();
     test_timers();
 }

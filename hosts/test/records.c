@@ -5,7 +5,7 @@ static const struct trunhoac_handle event = {55, 200};
 
 static uint8_t record[TRUNHOAC_RECORD_BYTES];
 
-/* The bytes are written by hand from document 01. The record is then spoilt, so that the next is filled whole. */
+/* The bytes are written by hand from the documents. The record is then spoilt, so that the next is filled whole. */
 static void expect_record(const uint8_t *filled, const char *bytes)
 {
     char text[64];
@@ -43,6 +43,9 @@ static void test_other_commands(void)
     expect_record(trunhoac_fill_disarm(record, 15), "15 15");
     expect_record(trunhoac_fill_tick(record), "16");
     expect_record(trunhoac_fill_drain(record, 255), "18 255");
+    expect_record(trunhoac_fill_defer(record, 7), "19 7");
+    expect_record(trunhoac_fill_recall(record, 7, 9), "20 7 9");
+    expect_record(trunhoac_fill_flush(record, 7), "21 7");
 }
 
 /* The answers to a NEXT of signal 31, a transition: of an event with a block, and of the last timer's. */

@@ -24,6 +24,8 @@ static const char *const names[] = {
     [TRUNHOAC_END] = "END",             [TRUNHOAC_ARM] = "ARM",
     [TRUNHOAC_DISARM] = "DISARM",       [TRUNHOAC_TICK] = "TICK",
     [TRUNHOAC_READ] = "READ",           [TRUNHOAC_DRAIN] = "DRAIN",
+    [TRUNHOAC_DEFER] = "DEFER",         [TRUNHOAC_RECALL] = "RECALL",
+    [TRUNHOAC_FLUSH] = "FLUSH",
 };
 
 static const char *const kinds[] = {[STATE] = "STATE", [ROW] = "ROW", [TOP] = "TOP"};
@@ -65,7 +67,7 @@ static bool put(struct line *line, uint8_t name, size_t *at, const char *word)
 static bool read_record(struct line *line, const char *first)
 {
     bool is_piece = strcmp(first, "PIECE") == 0;
-    uint8_t name = number_of(first, names, TRUNHOAC_DRAIN);
+    uint8_t name = number_of(first, names, TRUNHOAC_FLUSH);
     uint8_t kind = number_of(first, kinds, TOP);
     size_t at = 0;
 

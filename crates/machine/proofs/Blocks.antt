@@ -8,7 +8,7 @@ use borrow.Author.Tests.{ltb-true, leb-true, leb-false, le-ltb}
 use lib.Dec.{eqb, ltb, leb}
 use lib.ListN.{length, getD, set}
 use Rattle.ground.specs.Bools.{cond-pick}
-use Rattle.mail.specs.Box.{boxAt, occurrences, one}
+use Rattle.mail.specs.Box.{boxAt, occurrences, one, pushBack}
 use Rattle.mail.specs.Entry.{entryOf, handOf}
 use Rattle.mail.specs.Laws.{occurrences-back, occurrences-front, block-back}
 use Rattle.mail.specs.declared.Hand.{Hand}
@@ -38,21 +38,23 @@ use Rattle.machine.proofs.Counts.{
   hold-fewer,
   hold-none,
 }
-use Rattle.machine.proofs.Parts.{store-changed, store-holds, store-new, mail-back, mail-front}
+use Rattle.machine.proofs.Parts.{store-changed, store-holds, store-new, mail-back, mail-front, sides-back}
+use Rattle.machine.specs.Aside.{setAside}
 use Rattle.machine.specs.Events.{counted, freedNew, newEvent, newIn, posted, postedFront, held, released}
-use Rattle.machine.specs.Inv.{Inv, isLive, references, countOf, IsSignal, IsEvent, InHand, StoreOk, MailOk}
-use Rattle.machine.specs.Numbers.{objects, mostBytes, payloadBytes, mostHolds, capacity, placeOf}
+use Rattle.machine.specs.Inv.{Inv, isLive, references, countOf, IsSignal, IsEvent, IsBlock, InHand, StoreOk, MailOk, SidesOk}
+use Rattle.machine.specs.Numbers.{objects, mostBytes, payloadBytes, mostHolds, sideQueues, mostAside, capacity, placeOf}
 use Rattle.machine.specs.Reply.{Areas}
-use Rattle.machine.specs.State.{State, Events, sizeIn, holdsOn, depthOf, room, withCells, withEvents, withBoxes, withHand, withHolds}
+use Rattle.machine.specs.State.{State, Events, sizeIn, holdsOn, sideOf, depthOf, room, withCells, withEvents, withBoxes, withSides, withHand, withHolds}
 
 -- The fields that the blocks and their references stand in.
-pub events-inv : (s : State) (cells : List Cell) (e : Events) (boxes : List (List ℕ)) (h : Hand) → Inv s →
-    StoreOk cells e → MailOk boxes (s .objects .depths) → InHand h → Counted cells (refers (e .holds) boxes h) →
-    Inv (withCells cells (withEvents e (withBoxes boxes (withHand h s))))
+pub events-inv : (s : State) (cells : List Cell) (e : Events) (boxes sides : List (List ℕ)) (h : Hand) → Inv s →
+    StoreOk cells e → MailOk boxes (s .objects .depths) → SidesOk sides → InHand h → Counted cells (refers (e .holds) boxes sides h) →
+    Inv (withCells cells (withEvents e (withBoxes boxes (withSides sides (withHand h s)))))
 unfolding references
-events-inv s cells e boxes h i store mail in-hand c = record {
+events-inv s cells e boxes sides h i store mail aside in-hand c = record {
   store = store;
   mail = mail;
+  aside = aside;
   seats = i .seats;
   wants = i .wants;
   timers = i .timers;
@@ -66,27 +68,28 @@ module _ (s : State) (b : ℕ) (i : Inv s) (l : b < blocks) where
   stored f none = store-changed (s .cells) (s .events) b (i .store) l f none
 
   with-holds : (f : Cell → Cell) (n : ℕ) → MakesNoneLive f → n ≤ mostHolds →
-      Counted (changed f (s .cells) b) (refers (set (s .events .holds) b n) (s .boxes) (s .hand)) →
+      Counted (changed f (s .cells) b) (refers (set (s .events .holds) b n) (s .boxes) (s .sides) (s .hand)) →
       Inv (withHolds (set (s .events .holds) b n) (withCells (changed f (s .cells) b) s))
   with-holds f n none h c =
-      events-inv s (changed f (s .cells) b) (withHolds (set (s .events .holds) b n) s .events) (s .boxes) (s .hand) i
+      events-inv s (changed f (s .cells) b) (withHolds (set (s .events .holds) b n) s .events) (s .boxes) (s .sides) (s .hand) i
       (store-holds (changed f (s .cells) b) (s .events) b (stored f none) l n h)
       (i .mail)
+      (i .aside)
       (i .in-hand)
       c
 
   few : references s b < mostReferences
   few = omega (arith, references-most s b i)
 
-  -- a live block gets a reference more: an entry, or a hold
+  -- a live block gets a reference more: an entry, a side entry, or a hold
   module _ (lives : isLive (at (s .cells) b) ≡ true) where
     pushed : (boxes : List (List ℕ)) → MailOk boxes (s .objects .depths) →
         ((k : ℕ) → occurrences (entryOf (Block k)) boxes ≡ occurrences (entryOf (Block k)) (s .boxes) + one (eqb (entryOf (Block b)) (entryOf (Block k)))) →
         Inv (withBoxes boxes (counted s b))
     unfolding references
     pushed boxes mail gain =
-        events-inv s (changed more (s .cells) b) (s .events) boxes (s .hand) i (stored more more-none) mail (i .in-hand)
-        (counted-more (s .cells) (references s) (refers (s .events .holds) boxes (s .hand)) b (i .store .cells-length) l (i .counted) lives few
+        events-inv s (changed more (s .cells) b) (s .events) boxes (s .sides) (s .hand) i (stored more more-none) mail (i .aside) (i .in-hand)
+        (counted-more (s .cells) (references s) (refers (s .events .holds) boxes (s .sides) (s .hand)) b (i .store .cells-length) l (i .counted) lives few
         (λ k h. omega (arith, gain k, same-entry b k)))
 
     is-event : IsEvent (handOf (entryOf (Block b)))
@@ -109,6 +112,17 @@ module _ (s : State) (b : ℕ) (i : Inv s) (l : b < blocks) where
           pushed _ (mail-front (s .boxes) (s .objects .depths) (p - 1) (i .mail) (omega arith) (entryOf (Block b)) fits is-event)
           (λ k. occurrences-front (s .boxes) (p - 1) (omega arith) (entryOf (Block b)) (entryOf (Block k)))
 
+    pub setAside-keeps : (q : ℕ) → q < sideQueues → length (sideOf s q) < mostAside → Inv (setAside (Block b) q s)
+    unfolding setAside references IsBlock
+    setAside-keeps q low free =
+        let e = entryOf (Block b) in
+        let is-block : IsBlock (handOf e) = rw (block-back b (omega arith)) l in
+        events-inv s (changed more (s .cells) b) (s .events) (s .boxes) (pushBack (s .sides) q e) (s .hand) i (stored more more-none) (i .mail)
+        (sides-back (s .sides) q (i .aside) low e free is-block)
+        (i .in-hand)
+        (counted-more (s .cells) (references s) _ b (i .store .cells-length) l (i .counted) lives few
+        (λ k h. omega (arith, occurrences-back (s .sides) q (omega arith) e (entryOf (Block k)), same-entry b k)))
+
     pub held-keeps : holdsOn s b < mostHolds → Inv (held s b)
     unfolding held references
     held-keeps h =
@@ -128,7 +142,7 @@ module _ (s : State) (b : ℕ) (i : Inv s) (l : b < blocks) where
   pub freedNew-keeps : Inv (freedNew s b)
   unfolding references
   freedNew-keeps =
-      events-inv s (changed dropped (s .cells) b) (s .events) (s .boxes) (s .hand) i (stored dropped dropped-none) (i .mail) (i .in-hand)
+      events-inv s (changed dropped (s .cells) b) (s .events) (s .boxes) (s .sides) (s .hand) i (stored dropped dropped-none) (i .mail) (i .aside) (i .in-hand)
       (counted-same (s .cells) (references s) (references s) b (i .store .cells-length) l (i .counted) dropped (count-dropped (at (s .cells) b)) (λ k h. refl))
 
 -- NEW: what is found is free, is one of the blocks, and is large enough.
@@ -158,9 +172,10 @@ module _ (s : State) (g n : ℕ) (i : Inv s) (sig : IsSignal g) (h : n ≤ mostB
       let unheld : getD (s .events .holds) b 0 ≡ 0 = omega (arith, i .counted b l) in
       events-inv s (changed handedOut (s .cells) b)
       (record { signals = set (s .events .signals) b g; sizes = set (s .events .sizes) b n; holds = set (s .events .holds) b 0 })
-      (s .boxes) (s .hand) i
+      (s .boxes) (s .sides) (s .hand) i
       (store-new (s .cells) (s .events) b (i .store) l handedOut g n sig (pool-fits n b h (w .low)))
       (i .mail)
+      (i .aside)
       (i .in-hand)
       (counted-same (s .cells) (references s) _ b (i .store .cells-length) l (i .counted) handedOut (count-handed (at (s .cells) b) ∙ sym none)
       (λ k m. omega (arith, hold-none (s .events .holds) b (omega arith) k unheld)))

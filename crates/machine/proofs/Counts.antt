@@ -19,7 +19,7 @@ use Rattle.pool.specs.Cell.{Cell, free, live, absent, isFree, staleFor, handedO
 use Rattle.pool.specs.Laws.{changed-here, changed-other}
 use Rattle.pool.specs.Row.{at, blocks, changed, staleAt}
 use Rattle.machine.specs.Inv.{Inv, inHand, references, countOf, isLive}
-use Rattle.machine.specs.Numbers.{objects, mostHolds}
+use Rattle.machine.specs.Numbers.{objects, mostHolds, sideQueues, mostAside}
 use Rattle.machine.specs.State.{State}
 
 -- One block: what each operation makes of its count, and that none but handing out makes it live.
@@ -130,9 +130,9 @@ module _ (cells : List Cell) (r t : ℕ → ℕ) (b : ℕ) (all : length cells �
   pub counted-same : (f : Cell → Cell) → countOf (f (at cells b)) ≡ countOf (at cells b) → ((k : ℕ) → k < blocks → t k ≡ r k) → Counted (changed f cells b) t
   counted-same f e same = counted-changed f (λ k h ne. same k h) (e ∙ c b l ∙ sym (same b l))
 
--- The references: entries among the mailboxes, holds, the event in hand.
-abbrev pub refers : List ℕ → List (List ℕ) → Hand → ℕ → ℕ
-refers holds boxes h b = occurrences (entryOf (Block b)) boxes + getD holds b 0 + inHand h b
+-- The references: entries among the mailboxes and the side queues, holds, the event in hand.
+abbrev pub refers : List ℕ → List (List ℕ) → List (List ℕ) → Hand → ℕ → ℕ
+refers holds boxes sides h b = occurrences (entryOf (Block b)) boxes + occurrences (entryOf (Block b)) sides + getD holds b 0 + inHand h b
 
 -- one hold more, one fewer
 module _ (l : List ℕ) (b : ℕ) (h : b < length l) (k : ℕ) where
@@ -160,11 +160,17 @@ hand-most (Block x) b = cond-pick (λ k. k ≤ 1) (eqb x b) 1 0 (λ e. omega ari
 hand-most (Timer t g) b = omega arith
 
 -- at most as many entries as there are places, the holds and the hand
-pub references-most : (s : State) (b : ℕ) → Inv s → references s b ≤ room * objects + mostHolds + 1
+pub references-most : (s : State) (b : ℕ) → Inv s → references s b ≤ room * objects + mostAside * sideQueues + mostHolds + 1
 unfolding references
 references-most s b i =
     let m : (q : ℕ) → length (boxAt (s .boxes) q) ≤ room = λ q. omega (arith, i .mail .room q, i .mail .deep q) in
-    omega (arith, occurrences-most (s .boxes) (entryOf (Block b)) room m, i .store .held b, hand-most (s .hand) b)
+    omega (
+      arith,
+      occurrences-most (s .boxes) (entryOf (Block b)) room m,
+      occurrences-most (s .sides) (entryOf (Block b)) mostAside (i .aside .room),
+      i .store .held b,
+      hand-most (s .hand) b,
+    )
 
 -- an entry among the mailboxes, and the event that it stands for in hand, refer to the same block
 pub same-entry : (b k : ℕ) → one (eqb (entryOf (Block b)) (entryOf (Block k))) ≡ one (eqb b k)

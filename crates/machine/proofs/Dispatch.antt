@@ -2,6 +2,7 @@
 use mathlib.Core.Bool.{Bool, true, false}
 use mathlib.Core.List.{List}
 use Prim.Native.Nat.{ℕ}
+use Rattle.machine.specs.Aside
 use Rattle.machine.specs.Charts
 use Rattle.machine.specs.Clocks
 use Rattle.machine.specs.Events
@@ -36,6 +37,9 @@ pub record OfEach (P : Answer → Type 0) (d : List ℕ) (s : State) (z : Areas)
   pub tick : (spoilt : Bool) → P (Clocks.tick spoilt s z)
   pub read : (spoilt : Bool) (b gen : ℕ) → P (Events.read spoilt b gen s z)
   pub drain : (spoilt : Bool) (budget : ℕ) → P (Steps.drain spoilt budget s z)
+  pub defer : (spoilt : Bool) (q : ℕ) → P (Aside.defer spoilt q s z)
+  pub recall : (spoilt : Bool) (q p : ℕ) → P (Aside.recall spoilt q p s z)
+  pub flush : (spoilt : Bool) (q : ℕ) → P (Aside.flush spoilt q s z)
   pub form : P (answer s (no FORM) z)
 
 module _ (P : Answer → Type 0) (r d : List ℕ) (s : State) (z : Areas) (all : OfEach P d s z) where
@@ -60,7 +64,10 @@ module _ (P : Answer → Type 0) (r d : List ℕ) (s : State) (z : Areas) (all :
       (choose-all P _ _ _ (all .tick _)
       (choose-all P _ _ _ (all .read _ _ _)
       (choose-all P _ _ _ (all .drain _ _)
-      (all .form))))))))))))))))))
+      (choose-all P _ _ _ (all .defer _ _)
+      (choose-all P _ _ _ (all .recall _ _ _)
+      (choose-all P _ _ _ (all .flush _ _)
+      (all .form)))))))))))))))))))))
 
   pub answer-all : P (answerTo s r d z)
   unfolding answerTo

@@ -12,7 +12,7 @@ use Rattle.mail.specs.declared.Hand.the-variants.{Block}
 use Rattle.pool.specs.Cell.{free, absent}
 use Rattle.pool.specs.Row.{at, blocks, freshRow}
 use Rattle.machine.specs.Inv.{Inv, InHand, references, countOf, isLive, inHand}
-use Rattle.machine.specs.Numbers.{objects, timers, signalPlaces}
+use Rattle.machine.specs.Numbers.{objects, timers, sideQueues, mostAside, signalPlaces}
 use Rattle.machine.specs.State.{freshState}
 
 -- a list of one value, read anywhere, is that value or the default
@@ -51,6 +51,11 @@ fresh-inv = record {
     room = λ q. each (λ (l : List ℕ). length l ≤ getD (replicate objects 0) q 0) objects [] [] (omega arith) (omega arith) q;
     entries = λ q i h. absurd (omega (arith, each (λ (l : List ℕ). length l ≡ 0) objects [] [] refl refl q));
   };
+  aside = record {
+    sides-length = refl;
+    room = λ q. each (λ (l : List ℕ). length l ≤ mostAside) sideQueues [] [] (omega arith) (omega arith) q;
+    entries = λ q i h. absurd (omega (arith, each (λ (l : List ℕ). length l ≡ 0) sideQueues [] [] refl refl q));
+  };
   seats = record {
     depths-length = refl;
     rests-length = refl;
@@ -68,5 +73,12 @@ fresh-inv = record {
     armed = λ t h. absurd (omega (arith, zeros timers t));
   };
   in-hand = tt;
-  counted = λ b h. omega (arith, each (λ c. countOf c ≡ 0) blocks (free 0) absent refl refl b, none-there (entryOf (Block b)) objects, zeros blocks b);
+  counted = λ b h.
+      omega (
+        arith,
+        each (λ c. countOf c ≡ 0) blocks (free 0) absent refl refl b,
+        none-there (entryOf (Block b)) objects,
+        none-there (entryOf (Block b)) sideQueues,
+        zeros blocks b,
+      );
 }

@@ -2,6 +2,7 @@
 use mathlib.Core.List.{List}
 use Prim.Native.Nat.{ℕ}
 use Rattle.machine.proofs.Dispatch.{answer-all}
+use Rattle.machine.proofs.KeepsAside.{defer-keeps, recall-keeps, flush-keeps}
 use Rattle.machine.proofs.KeepsCharts.{load-keeps, start-keeps}
 use Rattle.machine.proofs.KeepsClocks.{arm-keeps, disarm-keeps, tick-keeps}
 use Rattle.machine.proofs.KeepsEvents.{
@@ -42,6 +43,9 @@ keeps s r d z i = answer-all Kept r d s z (record {
   tick = tick-keeps s z i;
   read = read-keeps s z i;
   drain = drain-keeps s z i;
+  defer = defer-keeps s z i;
+  recall = recall-keeps s z i;
+  flush = flush-keeps s z i;
   form = i;
 })
   where

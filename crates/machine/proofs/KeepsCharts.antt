@@ -41,6 +41,7 @@ module _ (s : State) (i : Inv s) where
   loaded-keeps q l = record {
     store = i .store;
     mail = i .mail;
+    aside = i .aside;
     seats = objects-load (s .objects) (s .loaded) (i .seats) q l;
     wants = i .wants;
     timers = i .timers;
@@ -57,6 +58,7 @@ module _ (s : State) (i : Inv s) where
       record {
         store = i .store;
         mail = mail-deep (s .boxes) (s .objects .depths) (p - 1) (i .mail) l depth (omega (arith, i .seats .depths-length)) most (omega arith);
+        aside = i .aside;
         seats = objects-start (s .objects) (s .loaded) (i .seats) (p - 1) depth rest q l r1 r24 is-slot is-loaded;
         wants = wants-stay (s .wants) (s .objects .depths) (i .wants) _ stays;
         timers = timers-stay (s .timers) (s .objects .depths) (i .timers) _ stays;

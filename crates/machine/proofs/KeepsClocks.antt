@@ -26,6 +26,7 @@ module _ (s : State) (i : Inv s) (t : ℕ) where
   armedWith-keeps p g ticks interval l h = record {
     store = i .store;
     mail = i .mail;
+    aside = i .aside;
     seats = i .seats;
     wants = i .wants;
     timers = timers-arm (s .timers) (s .objects .depths) (i .timers) t l p g ticks interval h;
@@ -39,6 +40,7 @@ module _ (s : State) (i : Inv s) (t : ℕ) where
   withCounter-keeps c l h = record {
     store = i .store;
     mail = i .mail;
+    aside = i .aside;
     seats = i .seats;
     wants = i .wants;
     timers = timers-count (s .timers) (s .objects .depths) (i .timers) t l c h;
@@ -62,6 +64,7 @@ module _ (s : State) (i : Inv s) (t : ℕ) where
         record {
           store = i .store;
           mail = mail-back (s .boxes) (s .objects .depths) (p - 1) (i .mail) l (entryOf (Timer t g)) (omega arith) e;
+          aside = i .aside;
           seats = i .seats;
           wants = i .wants;
           timers = timers-count (s .timers) (s .objects .depths) (i .timers) t is-timer (getD (s .timers .intervals) t 0) (λ h. a);

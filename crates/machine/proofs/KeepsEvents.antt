@@ -46,6 +46,7 @@ unfolding wanting references
 wanting-keeps s p g v i low high m on = record {
   store = i .store;
   mail = i .mail;
+  aside = i .aside;
   seats = i .seats;
   wants = wants-set (s .wants) (s .objects .depths) (i .wants) (p - 1) g v (omega arith) m (λ e. started-deep s p on);
   timers = i .timers;

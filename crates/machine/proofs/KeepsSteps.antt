@@ -120,6 +120,7 @@ stepped-keeps s tables i e t =
     record {
       store = i .store;
       mail = mail-took (s .boxes) (s .objects .depths) (toRun s - 1) (i .mail) l;
+      aside = i .aside;
       seats = objects-rest (s .objects) (s .loaded) (i .seats) (toRun s - 1) _ l (n .0) (n .1);
       wants = i .wants;
       timers = i .timers;
@@ -134,7 +135,7 @@ module _ (s : State) (i : Inv s) where
   not-held : (h : Hand) → s .hand ≡ h → ((b : ℕ) → inHand h b ≡ 0) → Inv (withHand Nothing s)
   unfolding references inHand InHand
   not-held h e none =
-      events-inv s (s .cells) (s .events) (s .boxes) Nothing i (i .store) (i .mail) tt (λ b l.
+      events-inv s (s .cells) (s .events) (s .boxes) (s .sides) Nothing i (i .store) (i .mail) (i .aside) tt (λ b l.
       let empty : inHand (s .hand) b ≡ 0 = rw e (none b) in
       omega (arith, i .counted b l))
 
@@ -143,11 +144,12 @@ module _ (s : State) (i : Inv s) where
   let-go-keeps Nothing e = not-held Nothing e (λ b. refl)
   let-go-keeps (Block b) e =
       let l : b < blocks = rw e at (i .in-hand) in
-      events-inv s (changed fewer (s .cells) b) (s .events) (s .boxes) Nothing i
+      events-inv s (changed fewer (s .cells) b) (s .events) (s .boxes) (s .sides) Nothing i
       (store-changed (s .cells) (s .events) b (i .store) l fewer fewer-none)
       (i .mail)
+      (i .aside)
       tt
-      (counted-fewer (s .cells) (references s) (refers (s .events .holds) (s .boxes) Nothing) b (i .store .cells-length) l (i .counted) (λ k m.
+      (counted-fewer (s .cells) (references s) (refers (s .events .holds) (s .boxes) (s .sides) Nothing) b (i .store .cells-length) l (i .counted) (λ k m.
       let holding : inHand (s .hand) k ≡ one (eqb b k) = rw e refl in
       omega arith))
   let-go-keeps (Timer t g) e = not-held (Timer t g) e (λ b. refl)

@@ -10,15 +10,15 @@ use lib.Seq.{getD-set-same, getD-set-other}
 use Rattle.chart.specs.Numbers.{mostStates}
 use Rattle.ground.specs.Lists.{set-all}
 use Rattle.mail.specs.Box
-use Rattle.mail.specs.Box.{boxAt, behind, ahead, rest, pushBack, pushFront, tookFront}
+use Rattle.mail.specs.Box.{boxAt, behind, ahead, rest, bare, pushBack, pushFront, tookFront, emptied}
 use Rattle.mail.specs.Entry.{handOf}
-use Rattle.mail.specs.Laws.{OfAll, all-back, all-front, all-took, behind-length, ahead-length, rest-length}
+use Rattle.mail.specs.Laws.{OfAll, all-back, all-front, all-took, all-emptied, behind-length, ahead-length, rest-length, bare-length}
 use Rattle.pool.specs.Cell.{Cell, absent}
 use Rattle.pool.specs.Laws.{changed-length}
 use Rattle.pool.specs.Row.{at, blocks, changed}
 use Rattle.machine.proofs.Counts.{MakesNoneLive}
-use Rattle.machine.specs.Inv.{isLive, IsSignal, IsEvent, StoreOk, MailOk, ObjectsOk, WantsOk, ArmedOk, TimersOk}
-use Rattle.machine.specs.Numbers.{objects, slots, timers, mostHolds, signalPlaces, capacity}
+use Rattle.machine.specs.Inv.{isLive, IsSignal, IsEvent, IsBlock, StoreOk, MailOk, SidesOk, ObjectsOk, WantsOk, ArmedOk, TimersOk}
+use Rattle.machine.specs.Numbers.{objects, slots, timers, mostHolds, sideQueues, mostAside, signalPlaces, capacity}
 use Rattle.machine.specs.State.{State, Events, Objects, Timers, depthOf, started}
 
 -- a list that has a number above 0 at a place has that place
@@ -109,6 +109,26 @@ module _ (boxes : List (List ℕ)) (depths : List ℕ) (q : ℕ) (ok : MailOk bo
     room = set-all (λ k (x : ℕ). length (boxAt boxes k) ≤ x) depths 0 q n m (λ k ne. ok .room k) (omega (arith, ok .room q));
     entries = ok .entries;
   }
+
+-- The side queues.
+module _ (sides : List (List ℕ)) (q : ℕ) (ok : SidesOk sides) (l : q < sideQueues) where
+  sides-changed : (f : List ℕ → List ℕ) → length (f (boxAt sides q)) ≤ mostAside → OfAll (λ e. IsBlock (handOf e)) (Box.changed f sides q) →
+      SidesOk (Box.changed f sides q)
+  unfolding Box.changed
+  sides-changed f h all = record {
+    sides-length = length-set sides q _ ∙ ok .sides-length;
+    room = set-all (λ k (x : List ℕ). length x ≤ mostAside) sides [] q _ (omega arith) (λ k ne. ok .room k) h;
+    entries = all;
+  }
+
+  pub sides-back : (e : ℕ) → length (boxAt sides q) < mostAside → IsBlock (handOf e) → SidesOk (pushBack sides q e)
+  sides-back e h is = sides-changed (behind e) (omega (arith, behind-length e (boxAt sides q))) (all-back (λ e. IsBlock (handOf e)) sides q (ok .entries) e is)
+
+  pub sides-took : SidesOk (tookFront sides q)
+  sides-took = sides-changed rest (omega (arith, rest-length (boxAt sides q), ok .room q)) (all-took (λ e. IsBlock (handOf e)) sides q (ok .entries))
+
+  pub sides-emptied : SidesOk (emptied sides q)
+  sides-emptied = sides-changed bare (omega (arith, bare-length (boxAt sides q))) (all-emptied (λ e. IsBlock (handOf e)) sides q (ok .entries))
 
 -- what is started stays so
 abbrev pub StaysStarted : List ℕ → List ℕ → Type 0

@@ -15,6 +15,7 @@ use Rattle.pool.specs.declared.Found.{Found}
 use Rattle.pool.specs.declared.Found.the-variants.{At, Nothing}
 use Rattle.machine.proofs.Dispatch.{OfEach, answer-all}
 use Rattle.machine.proofs.Tests.{unless-pick, fault-pick}
+use Rattle.machine.specs.Aside.{deferTests, defer, recallTests, recallDone, recall, flushTests, flush}
 use Rattle.machine.specs.Charts.{loadTests, load, startTests, start}
 use Rattle.machine.specs.Clocks.{armTests, arm, disarmTests, disarm, tickDone, tick}
 use Rattle.machine.specs.Events.{
@@ -133,10 +134,16 @@ module _ (d : List ℕ) (s : State) (z : Areas) where
   publishDone-replies zero b = says _ _ _ _
   publishDone-replies (suc n) b = says _ _ _ _
 
+  recallDone-replies : (n q p : ℕ) → Replies d s z (recallDone n q p s z)
+  unfolding recallDone
+  recallDone-replies zero q p = says _ _ _ _
+  recallDone-replies (suc n) q p = says _ _ _ _
+
   each : OfEach (Replies d s z) d s z
   unfolding load loadTests start startTests arm armTests disarm disarmTests tick tickDone
       new newTests post postTests postFront postFrontTests publish publishTests subscribe unsubscribe subscribeTests hold holdTests
-      release releaseTests dropEvent dropTests read readTests next nextTests stepTests nextSays end endTests drain drainTests drainDone
+      release releaseTests dropEvent dropTests read readTests next nextTests stepTests nextSays end endTests drain drainTests drainDone defer deferTests recall recallTests
+      flush flushTests
   each = record {
     load = λ u q. unless-replies (loadTests u q s (z .tables)) _ refl (fault-replies _ (says _ _ _ _));
     start = λ u p q depth. unless-replies (startTests u p q depth s (z .tables)) _ refl (runs _ _ _ _ _ _ _);
@@ -156,6 +163,9 @@ module _ (d : List ℕ) (s : State) (z : Areas) where
     tick = λ u. unless-replies ((FORM, u) ∷ []) _ refl (says _ _ _ _);
     read = λ u b gen. unless-replies (readTests u b gen s (z .payloads)) _ refl (shows _ _ _);
     drain = λ u budget. unless-replies (drainTests u s (z .tables) (z .log)) _ refl (says _ _ _ _);
+    defer = λ u q. unless-replies (deferTests u q s) _ refl (says _ _ _ _);
+    recall = λ u q p. unless-replies (recallTests u q p s) _ refl (recallDone-replies _ q p);
+    flush = λ u q. unless-replies (flushTests u q) _ refl (says _ _ _ _);
     form = refuses FORM (record { small = omega arith; other = refl });
   }
 

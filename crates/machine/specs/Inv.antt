@@ -13,17 +13,18 @@ use Rattle.mail.specs.declared.Hand.{Hand}
 use Rattle.mail.specs.declared.Hand.the-variants.{Nothing, Block, Timer}
 use Rattle.pool.specs.Cell.{Cell, free, live, absent}
 use Rattle.pool.specs.Row.{at}
-use Rattle.machine.specs.Numbers.{objects, blocks, timers, slots, mostHolds, signalPlaces, capacity}
+use Rattle.machine.specs.Numbers.{objects, blocks, timers, slots, mostHolds, sideQueues, mostAside, signalPlaces, capacity}
 use Rattle.machine.specs.State.{State, Events, Objects, Timers}
 
--- What refers to block b: its mailbox entries, its holds, the step in hand.
+-- What refers to block b: its mailbox entries, its side entries, its holds, the step in hand.
 unfoldable pub inHand : Hand → ℕ → ℕ
 inHand Nothing b = 0
 inHand (Block x) b = one (eqb x b)
 inHand (Timer t g) b = 0
 
 unfoldable pub references : State → ℕ → ℕ
-references s b = occurrences (entryOf (Block b)) (s .boxes) + getD (s .events .holds) b 0 + inHand (s .hand) b
+references s b =
+    occurrences (entryOf (Block b)) (s .boxes) + occurrences (entryOf (Block b)) (s .sides) + getD (s .events .holds) b 0 + inHand (s .hand) b
 
 -- The references that a block counts, and whether it is live.
 unfoldable pub countOf : Cell → ℕ
@@ -46,6 +47,11 @@ IsEvent Nothing = ⊥
 IsEvent (Block b) = b < blocks
 IsEvent (Timer t g) = (t < timers) × IsSignal g
 
+unfoldable pub IsBlock : Hand → Type 0
+IsBlock Nothing = ⊥
+IsBlock (Block b) = b < blocks
+IsBlock (Timer t g) = ⊥
+
 unfoldable pub InHand : Hand → Type 0
 InHand Nothing = Unit {0}
 InHand (Block b) = b < blocks
@@ -67,6 +73,12 @@ pub record MailOk (boxes : List (List ℕ)) (depths : List ℕ) : Type 0 where
   pub deep : (q : ℕ) → getD depths q 0 ≤ box.room
   pub room : (q : ℕ) → length (boxAt boxes q) ≤ getD depths q 0
   pub entries : (q i : ℕ) → i < length (boxAt boxes q) → IsEvent (handOf (getD (boxAt boxes q) i 0))
+
+-- The side queues: none has more than 8 entries, and every entry is a block.
+pub record SidesOk (sides : List (List ℕ)) : Type 0 where
+  pub sides-length : length sides ≡ sideQueues
+  pub room : (q : ℕ) → length (boxAt sides q) ≤ mostAside
+  pub entries : (q i : ℕ) → i < length (boxAt sides q) → IsBlock (handOf (getD (boxAt sides q) i 0))
 
 -- The objects: a started one rests in a state 1-24, on a slot that is loaded.
 pub record ObjectsOk (o : Objects) (loaded : List ℕ) : Type 0 where
@@ -101,6 +113,7 @@ pub record TimersOk (x : Timers) (depths : List ℕ) : Type 0 where
 pub record Inv (s : State) : Type 0 where
   pub store : StoreOk (s .cells) (s .events)
   pub mail : MailOk (s .boxes) (s .objects .depths)
+  pub aside : SidesOk (s .sides)
   pub seats : ObjectsOk (s .objects) (s .loaded)
   pub wants : WantsOk (s .wants) (s .objects .depths)
   pub timers : TimersOk (s .timers) (s .objects .depths)

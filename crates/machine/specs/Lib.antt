@@ -1,5 +1,6 @@
--- To be believed, in document 01's order: Numbers, State, Reply, the commands (Charts, Events, Steps, Clocks), Machine. Inv: what is kept.
--- Run: DRAIN as a loop makes it.
+-- To be believed, in the documents' order: Numbers, State, Reply, the commands (Charts, Events, Steps, Clocks, Aside), Machine.
+-- Inv: what is kept. Run: DRAIN as a loop makes it.
+pub mod Aside
 pub mod Charts
 pub mod Clocks
 pub mod Events

@@ -1,4 +1,4 @@
--- Document 01, "Numbers of the kernel".
+-- Document 01, "Numbers of the kernel", and those of document 02.
 use mathlib.Core.Bool.{Bool, cond, _||_}
 use Prim.Native.Nat.{ℕ, _+_, _*_, _-_}
 use lib.Dec.{ltb}
@@ -17,6 +17,13 @@ slots = 4
 
 abbrev pub mostHolds : ℕ
 mostHolds = 15
+
+-- Eight side queues of up to 8 entries each.
+abbrev pub sideQueues : ℕ
+sideQueues = 8
+
+abbrev pub mostAside : ℕ
+mostAside = 8
 
 -- The most bytes of an event's payload: those of the largest blocks, and of a record.
 abbrev pub mostBytes : ℕ
@@ -72,6 +79,9 @@ noSize n = outside 0 mostBytes n
 
 abbrev pub noMargin : ℕ → Bool
 noMargin m = outside 0 15 m
+
+abbrev pub noSide : ℕ → Bool
+noSide q = outside 0 7 q
 
 -- Blocks 0-31 hold 16 bytes, 32-47 hold 32, 48-55 hold 64; the payload area has the blocks in order.
 unfoldable pub capacity : ℕ → ℕ

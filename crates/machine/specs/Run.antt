@@ -1,14 +1,15 @@
 -- DRAIN's steps as a loop makes them that leaves the blocks alone, and lets go of all of them afterwards. That it does what DRAIN does
--- is a law (proofs/Drain).
+-- is a law (proofs/Drain). FLUSH lets go of its blocks so too (proofs/Flush).
 use mathlib.Core.Bool.{cond}
 use mathlib.Core.List.{List, [], _∷_, _++_}
 use Prim.Native.Nat.{ℕ, zero, suc, _+_, _*_, _-_, _≤_, _<_}
 use lib.Dec.{eqb}
-use lib.ListN.{getD, set}
+use lib.ListN.{length, getD, set}
 use Rattle.chart.specs.Flat.{place}
 use Rattle.chart.specs.Numbers.{slotSize, rowSize}
 use Rattle.ground.specs.Range.{tab}
 use Rattle.mail.specs.Box.{tookFront}
+use Rattle.mail.specs.Entry.{handOf}
 use Rattle.mail.specs.declared.Hand.{Hand}
 use Rattle.mail.specs.declared.Hand.the-variants.{Nothing, Block, Timer}
 use Rattle.pool.specs.Cell.{free}
@@ -33,6 +34,10 @@ blockOf Nothing = 255
 blockOf (Block b) = b
 blockOf (Timer t g) = 255
 
+-- The blocks of a list of entries.
+abbrev pub blocksIn : List ℕ → List ℕ
+blocksIn l = tab (λ i. blockOf (handOf (getD l i 0))) (length l)
+
 -- A run begins in a state, and leaves one: all that it does not speak of is as it was.
 abbrev pub begun : State → List ℕ → Run
 begun s log = record { steps = 0; boxes = s .boxes; rests = s .objects .rests; log = log; gone = [] }
@@ -46,6 +51,7 @@ seen gens signals seats x = record {
   cells = tab (λ b. free (getD gens b 0)) blocks;
   events = record { signals = signals; sizes = []; holds = [] };
   boxes = x .boxes;
+  sides = [];
   objects = record { depths = []; rests = x .rests; seats = seats };
   wants = [];
   loaded = [];

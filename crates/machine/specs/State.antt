@@ -9,7 +9,7 @@ use Rattle.mail.specs.declared.Hand.{Hand}
 use Rattle.mail.specs.declared.Hand.the-variants.{Nothing, Block, Timer}
 use Rattle.pool.specs.Cell.{Cell}
 use Rattle.pool.specs.Row.{freshRow}
-use Rattle.machine.specs.Numbers.{objects, blocks, timers, slots, signalPlaces}
+use Rattle.machine.specs.Numbers.{objects, blocks, timers, slots, sideQueues, signalPlaces}
 
 -- Of the event in each of the 56 blocks: its signal, its size, its holds.
 pub record Events : Type 0 where
@@ -36,6 +36,8 @@ pub record State : Type 0 where
   pub events : Events
   -- the mailboxes, one list of entries an object, front first
   pub boxes : List (List ℕ)
+  -- the side queues, one list of entries each, oldest first
+  pub sides : List (List ℕ)
   pub objects : Objects
   -- 1 at place 32 (p - 1) + g: object p subscribes to signal g
   pub wants : List ℕ
@@ -50,6 +52,7 @@ freshState = record {
   cells = freshRow;
   events = record { signals = replicate blocks 0; sizes = replicate blocks 0; holds = replicate blocks 0 };
   boxes = replicate objects [];
+  sides = replicate sideQueues [];
   objects = record { depths = replicate objects 0; rests = replicate objects 0; seats = replicate objects 0 };
   wants = replicate (signalPlaces * objects) 0;
   loaded = replicate slots 0;
@@ -69,6 +72,9 @@ holdsOn s b = getD (s .events .holds) b 0
 
 abbrev pub boxOf : State → ℕ → List ℕ
 boxOf s p = boxAt (s .boxes) (p - 1)
+
+abbrev pub sideOf : State → ℕ → List ℕ
+sideOf s q = boxAt (s .sides) q
 
 abbrev pub depthOf : State → ℕ → ℕ
 depthOf s p = getD (s .objects .depths) (p - 1) 0
@@ -108,28 +114,31 @@ isOpen (Timer t g) = true
 
 -- The state with one part replaced.
 abbrev pub withCells : List Cell → State → State
-withCells x s = record { cells = x; events = s .events; boxes = s .boxes; objects = s .objects; wants = s .wants; loaded = s .loaded; timers = s .timers; hand = s .hand }
+withCells x s = record { cells = x; events = s .events; boxes = s .boxes; sides = s .sides; objects = s .objects; wants = s .wants; loaded = s .loaded; timers = s .timers; hand = s .hand }
 
 abbrev pub withEvents : Events → State → State
-withEvents x s = record { cells = s .cells; events = x; boxes = s .boxes; objects = s .objects; wants = s .wants; loaded = s .loaded; timers = s .timers; hand = s .hand }
+withEvents x s = record { cells = s .cells; events = x; boxes = s .boxes; sides = s .sides; objects = s .objects; wants = s .wants; loaded = s .loaded; timers = s .timers; hand = s .hand }
 
 abbrev pub withBoxes : List (List ℕ) → State → State
-withBoxes x s = record { cells = s .cells; events = s .events; boxes = x; objects = s .objects; wants = s .wants; loaded = s .loaded; timers = s .timers; hand = s .hand }
+withBoxes x s = record { cells = s .cells; events = s .events; boxes = x; sides = s .sides; objects = s .objects; wants = s .wants; loaded = s .loaded; timers = s .timers; hand = s .hand }
+
+abbrev pub withSides : List (List ℕ) → State → State
+withSides x s = record { cells = s .cells; events = s .events; boxes = s .boxes; sides = x; objects = s .objects; wants = s .wants; loaded = s .loaded; timers = s .timers; hand = s .hand }
 
 abbrev pub withObjects : Objects → State → State
-withObjects x s = record { cells = s .cells; events = s .events; boxes = s .boxes; objects = x; wants = s .wants; loaded = s .loaded; timers = s .timers; hand = s .hand }
+withObjects x s = record { cells = s .cells; events = s .events; boxes = s .boxes; sides = s .sides; objects = x; wants = s .wants; loaded = s .loaded; timers = s .timers; hand = s .hand }
 
 abbrev pub withWants : List ℕ → State → State
-withWants x s = record { cells = s .cells; events = s .events; boxes = s .boxes; objects = s .objects; wants = x; loaded = s .loaded; timers = s .timers; hand = s .hand }
+withWants x s = record { cells = s .cells; events = s .events; boxes = s .boxes; sides = s .sides; objects = s .objects; wants = x; loaded = s .loaded; timers = s .timers; hand = s .hand }
 
 abbrev pub withLoaded : List ℕ → State → State
-withLoaded x s = record { cells = s .cells; events = s .events; boxes = s .boxes; objects = s .objects; wants = s .wants; loaded = x; timers = s .timers; hand = s .hand }
+withLoaded x s = record { cells = s .cells; events = s .events; boxes = s .boxes; sides = s .sides; objects = s .objects; wants = s .wants; loaded = x; timers = s .timers; hand = s .hand }
 
 abbrev pub withTimers : Timers → State → State
-withTimers x s = record { cells = s .cells; events = s .events; boxes = s .boxes; objects = s .objects; wants = s .wants; loaded = s .loaded; timers = x; hand = s .hand }
+withTimers x s = record { cells = s .cells; events = s .events; boxes = s .boxes; sides = s .sides; objects = s .objects; wants = s .wants; loaded = s .loaded; timers = x; hand = s .hand }
 
 abbrev pub withHand : Hand → State → State
-withHand x s = record { cells = s .cells; events = s .events; boxes = s .boxes; objects = s .objects; wants = s .wants; loaded = s .loaded; timers = s .timers; hand = x }
+withHand x s = record { cells = s .cells; events = s .events; boxes = s .boxes; sides = s .sides; objects = s .objects; wants = s .wants; loaded = s .loaded; timers = s .timers; hand = x }
 
 abbrev pub withHolds : List ℕ → State → State
 withHolds x s = withEvents (record { signals = s .events .signals; sizes = s .events .sizes; holds = x }) s

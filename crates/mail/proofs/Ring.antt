@@ -1,5 +1,5 @@
 -- What a store does to one mailbox's ring.
-use mathlib.Core.List.{List}
+use mathlib.Core.List.{List, []}
 use mathlib.Core.Path.{_≡_, refl, ap}
 use Prim.Native.Nat.{ℕ, zero, suc, _+_, _*_, _-_, _<_, _≤_}
 use native.Mathlib.Nat.{not-suc-le-zero}
@@ -7,7 +7,7 @@ use native.Mathlib.Numerals.{add-one}
 use native.Mathlib.Omega.{arith}
 use lib.ListN.{length, getD, set}
 use lib.Seq.{getD-set-same, getD-set-other}
-use Rattle.ground.specs.Range.{tab}
+use Rattle.ground.specs.Range.{tab, tabFrom}
 use Rattle.ground.specs.Tab.{getD-tab, tab-ext, tab-cons, tab-snoc}
 use Rattle.mail.specs.Box.{room, behind, ahead, rest}
 use Rattle.mail.specs.Inside.{placeOf, oneBack, oneOn, entryAt, ring}
@@ -38,9 +38,9 @@ module _ (pl : List ℕ) (q h n : ℕ) where
         rw on (getD-set-other pl (placeOf q h' 0) (placeOf q h i) e 0 (λ z. omega arith))) in
         rw (add-one, tab-cons, new, old) refl
 
-  pub ring-first : 0 < n → getD (ring pl q h n) 0 0 ≡ entryAt pl q h 0
+  pub ring-entry : (i : ℕ) → i < n → getD (ring pl q h n) i 0 ≡ entryAt pl q h i
   unfolding ring
-  ring-first k = getD-tab (entryAt pl q h) n 0 0 k
+  ring-entry i k = getD-tab (entryAt pl q h) n i 0 k
 
 pub ring-rest : (pl : List ℕ) (q h n : ℕ) → 0 < n → ring pl q (oneOn h) (n - 1) ≡ rest (ring pl q h n)
 unfolding ring rest
@@ -49,3 +49,7 @@ ring-rest pl q h (suc n) l =
     let z : suc n - 1 ≡ n = omega arith in
     rw (z, tab-cons)
     (tab-ext _ _ n (λ i j. let on : placeOf q (oneOn h) i ≡ placeOf q h (suc i) = omega arith in ap (λ (x : ℕ). getD pl x 0) on))
+
+pub ring-none : (pl : List ℕ) (q h : ℕ) → ring pl q h 0 ≡ []
+unfolding ring tabFrom
+ring-none pl q h = refl

@@ -6,18 +6,21 @@ use native.Mathlib.Omega.{arith}
 use lib.ListN.{length, getD, set, length-set}
 use lib.Seq.{getD-set-same, getD-set-other}
 use Rattle.ground.specs.Tab.{getD-tab, tab-set}
-use Rattle.mail.specs.Box.{room, boxAt, front, changed, behind, ahead, rest, pushBack, pushFront, tookFront}
+use Rattle.mail.specs.Box.{room, boxAt, front, changed, behind, ahead, rest, bare, pushBack, pushFront, tookFront, emptied}
 use Rattle.mail.specs.Inside.{placeOf, oneBack, oneOn, entryAt, boxOf, boxes, Mail, Holds}
-use Rattle.mail.proofs.Ring.{ring-other, ring-back, ring-front, ring-first, ring-rest}
+use Rattle.mail.proofs.Ring.{ring-other, ring-back, ring-front, ring-entry, ring-rest, ring-none}
 
 module _ (pl hs cs : List ℕ) (q : ℕ) (l : q < length cs) where
   box-at : boxAt (boxes pl hs cs) q ≡ boxOf pl hs cs q
   unfolding boxes
   box-at = getD-tab (boxOf pl hs cs) (length cs) q [] l
 
-  pub first-entry : 0 < getD cs q 0 → entryAt pl q (getD hs q 0) 0 ≡ front (boxes pl hs cs) q
+  pub entry-is : (i : ℕ) → i < getD cs q 0 → entryAt pl q (getD hs q 0) i ≡ getD (boxAt (boxes pl hs cs) q) i 0
   unfolding boxOf
-  first-entry k = sym (ap (λ b. getD b 0 0) box-at ∙ ring-first pl q (getD hs q 0) (getD cs q 0) k)
+  entry-is i k = sym (ap (λ b. getD b i 0) box-at ∙ ring-entry pl q (getD hs q 0) (getD cs q 0) i k)
+
+  pub first-entry : 0 < getD cs q 0 → entryAt pl q (getD hs q 0) 0 ≡ front (boxes pl hs cs) q
+  first-entry k = entry-is 0 k
 
   -- one mailbox is another, with n entries, the rest are as they were
   stored : (f : List ℕ → List ℕ) (pl' hs' : List ℕ) (n : ℕ) → boxOf pl' hs' (set cs q n) q ≡ f (boxOf pl hs cs q) →
@@ -61,4 +64,11 @@ module _ (pl hs cs : List ℕ) (q : ℕ) (l : q < length cs) where
           (rw (getD-set-same hs q (oneOn (getD hs q 0)) 0 (omega arith), getD-set-same cs q (getD cs q 0 - 1) 0 (omega arith))
           (ring-rest pl q (getD hs q 0) (getD cs q 0) k))
           (λ k ne. rw (getD-set-other hs q k _ 0 ne, getD-set-other cs q k _ 0 ne) refl);
+    }
+
+    pub all-left : Holds pl hs (set cs q 0) (emptied (boxes pl hs cs) q)
+    unfolding boxOf bare
+    all-left = record {
+      mail = record { places = simp length-set (m .places); heads = simp length-set (m .heads) };
+      are = stored bare pl hs 0 (rw (getD-set-same cs q 0 0 (omega arith)) (ring-none pl q (getD hs q 0))) (λ k ne. rw (getD-set-other cs q k _ 0 ne) refl);
     }

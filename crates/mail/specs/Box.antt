@@ -1,4 +1,4 @@
--- The mailboxes: for each object, counted from 0, the list of its entries, front first.
+-- The mailboxes: for each object, counted from 0, the list of its entries, front first. The side queues are lists of the same kind.
 use mathlib.Core.Bool.{Bool, cond}
 use mathlib.Core.List.{List, [], _∷_, _++_}
 use Prim.Native.Nat.{ℕ, zero, suc, _+_}
@@ -19,7 +19,7 @@ front bs q = getD (boxAt bs q) 0 0
 unfoldable pub changed : (List ℕ → List ℕ) → List (List ℕ) → ℕ → List (List ℕ)
 changed f bs q = set bs q (f (boxAt bs q))
 
--- A mailbox with entry e behind it, with e ahead of it, without its front entry.
+-- A mailbox with entry e behind it, with e ahead of it, without its front entry, without any.
 unfoldable pub behind : ℕ → List ℕ → List ℕ
 behind e b = b ++ (e ∷ [])
 
@@ -29,7 +29,10 @@ ahead e b = e ∷ b
 unfoldable pub rest : List ℕ → List ℕ
 rest b = drop 1 b
 
--- Entry e joins mailbox q at the back, at the front; the front entry leaves it.
+unfoldable pub bare : List ℕ → List ℕ
+bare b = []
+
+-- Entry e joins mailbox q at the back, at the front; the front entry leaves it, all of them do.
 abbrev pub pushBack : List (List ℕ) → ℕ → ℕ → List (List ℕ)
 pushBack bs q e = changed (behind e) bs q
 
@@ -38,6 +41,9 @@ pushFront bs q e = changed (ahead e) bs q
 
 abbrev pub tookFront : List (List ℕ) → ℕ → List (List ℕ)
 tookFront bs q = changed rest bs q
+
+abbrev pub emptied : List (List ℕ) → ℕ → List (List ℕ)
+emptied bs q = changed bare bs q
 
 -- The highest of the first n objects that has mail, counted from 1; 0 where none has.
 unfoldable pub highestOf : List (List ℕ) → ℕ → ℕ

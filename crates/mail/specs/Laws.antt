@@ -1,5 +1,5 @@
 -- Laws of lists of mailboxes, for the layers above.
-use mathlib.Core.Bool.{true, false}
+use mathlib.Core.Bool.{Bool, true, false, cond}
 use mathlib.Core.List.{List, [], _∷_, _++_}
 use mathlib.Core.Logic.{⊎-elim}
 use mathlib.Core.Path.{_≡_, refl, sym, ap}
@@ -9,15 +9,15 @@ use native.Mathlib.Nat.{not-suc-le-zero, le-of-suc-le-suc, eq-or-lt-of-le, mul-s
 use native.Mathlib.Numerals.{add-one}
 use native.Mathlib.Omega.{arith}
 use borrow.Author.Tests.{eqb-true, eqb-false, ne-eqb, lt-ltb, le-ltb}
-use lib.Dec.{eqb}
+use lib.Dec.{eqb, ltb}
 use lib.ListN.{length, getD, set, length-set, length-append, length-drop, List·getD-append, List·getD-eq-default}
 use lib.Seq.{getD-set-same, getD-set-other, getD-append-seam, set-out}
 use Rattle.ground.specs.Bools.{cond-pick}
 use Rattle.ground.specs.Lists.{set-all}
-use Rattle.mail.specs.Box.{boxAt, front, changed, behind, ahead, rest, pushBack, pushFront, tookFront}
+use Rattle.mail.specs.Box.{boxAt, front, changed, behind, ahead, rest, bare, pushBack, pushFront, tookFront, emptied}
 use Rattle.mail.specs.Box.{highestOf, highest, total, one, timesIn, queued, occurrences}
-use Rattle.mail.specs.Entry.{firstTimer, signals, entryOf, handOf}
-use Rattle.mail.specs.declared.Hand.the-variants.{Block, Timer}
+use Rattle.mail.specs.Entry.{firstTimer, signals, entryOf, handOf, timerOf}
+use Rattle.mail.specs.declared.Hand.the-variants.{Nothing, Block, Timer}
 
 -- the mailboxes after an operation
 module _ (f : List ℕ → List ℕ) (bs : List (List ℕ)) (q : ℕ) where
@@ -45,6 +45,10 @@ module _ (e : ℕ) (b : List ℕ) where
 pub rest-length : (b : List ℕ) → length (rest b) ≡ length b - 1
 unfolding rest
 rest-length b = length-drop 1 b
+
+pub bare-length : (b : List ℕ) → length (bare b) ≡ 0
+unfolding bare
+bare-length b = refl
 
 -- only an object that is there has mail
 pub mail-within : (bs : List (List ℕ)) (q : ℕ) → 0 < length (boxAt bs q) → q < length bs
@@ -135,6 +139,10 @@ module _ (bs : List (List ℕ)) (q : ℕ) where
     pub occurrences-took : (e : ℕ) → occurrences e (tookFront bs q) + one (eqb (front bs q) e) ≡ occurrences e bs
     occurrences-took e = omega (arith, total-changed (timesIn e) rest bs q (mail-within bs q h), times-rest e (boxAt bs q) h)
 
+  pub occurrences-emptied : q < length bs → (e : ℕ) → occurrences e (emptied bs q) + timesIn e (boxAt bs q) ≡ occurrences e bs
+  unfolding bare timesIn
+  occurrences-emptied l e = omega (arith, total-changed (timesIn e) bare bs q l)
+
 module _ (bs : List (List ℕ)) where
   pub occurrences-queued : (e : ℕ) → occurrences e bs ≤ queued bs
   occurrences-queued e = total-le (timesIn e) length (times-most e) bs
@@ -197,10 +205,24 @@ module _ (P : ℕ → Type 0) where
     pub all-took : OfAll P (tookFront bs q)
     all-took = all-changed rest (each-rest (boxAt bs q) (h q))
 
+    pub all-emptied : OfAll P (emptied bs q)
+    unfolding bare
+    all-emptied = all-changed bare (λ i l. absurd (not-suc-le-zero l))
+
 -- there and back, from what an entry stands for
 pub block-back : (b : ℕ) → b < firstTimer - 1 → handOf (entryOf (Block b)) ≡ Block b
 unfolding handOf entryOf
 block-back b l = rw (ne-eqb (1 + b) 0 (λ e. omega arith), lt-ltb (1 + b) firstTimer (omega arith)) (ap Block (omega arith))
+
+-- an entry that stands for a block is that block's entry
+pub block-entry : (e b : ℕ) → handOf e ≡ Block b → e ≡ entryOf (Block b)
+unfolding handOf entryOf
+block-entry e b = go (eqb e 0) refl (ltb e firstTimer)
+  where
+    go : (none : Bool) → eqb e 0 ≡ none → (block : Bool) → cond none Nothing (cond block (Block (e - 1)) (timerOf (e - firstTimer))) ≡ Block b → e ≡ 1 + b
+    go true z block h = let w : _≡_ {A = ℕ} 0 1 = cc in absurd (omega arith)
+    go false z true h = let k : e - 1 ≡ b = cc in omega (arith, eqb-false e 0 z)
+    go false z false h = let w : _≡_ {A = ℕ} 0 1 = cc in absurd (omega arith)
 
 pub timer-back : (t g : ℕ) → t < 256 → g < signals → handOf (entryOf (Timer t g)) ≡ Timer t g
 unfolding handOf entryOf

@@ -1,10 +1,10 @@
-// The mailboxes: for each object, of any number of them, a ring of 16 places, all in one array. Objects are counted from 0 here. What
-// stands above relies on the promises alone, which speak of `boxes places heads counts`, the lists of entries that the three arrays hold.
+// The mailboxes: for each object, of any number of them, a ring of 16 places, all in one array. Objects are counted from 0 here. The side
+// queues are such rings too. What stands above relies on the promises alone, which speak of `boxes places heads counts`, the lists of entries that the three arrays hold.
 ghost use mathlib.Core.List.{List};
 ghost use mathlib.Core.Path.{_≡_};
 ghost use Prim.Native.Nat.{ℕ, _+_, _*_, _-_, _^_, _<_, _≤_};
 ghost use lib.ListN.{getD, length, set};
-ghost use Rattle.mail.specs.Box.{pushBack, pushFront, tookFront, front, highest, room};
+ghost use Rattle.mail.specs.Box.{boxAt, emptied, front, highest, pushBack, pushFront, room, tookFront};
 ghost use Rattle.mail.specs.Entry.{entryOf, handOf};
 ghost use Rattle.mail.specs.Inside.{placeOf, boxes, Mail, Holds};
 use ground::byte_at;
@@ -88,6 +88,24 @@ pub fn front(places: &[u16], heads: &[u8], counts: &[u8], q: usize) -> u16
     ensures { λ r. ⌜ r ≡ front (boxes (now (places .entry)) (now (heads .entry)) (now (counts .entry))) q ⌝ }
 {
     places[place(q, wide(heads[q]), 0)]
+}
+
+// Entry i, counted from the front.
+pub fn entry(places: &[u16], heads: &[u8], counts: &[u8], q: usize, i: usize) -> u16
+    requires { ⌜ Mail (now places) (now heads) (now counts) ⌝ }
+    requires { ⌜ (q < length (now counts)) × (i < getD (now counts) q 0) × (i < room) ⌝ }
+    ensures { λ r. ⌜ r ≡ getD (boxAt (boxes (now (places .entry)) (now (heads .entry)) (now (counts .entry))) q) i 0 ⌝ }
+{
+    places[place(q, wide(heads[q]), i)]
+}
+
+// Every entry leaves. The other arrays have no part in it.
+pub fn empty(counts: &mut [u8], q: usize)
+    requires { ⌜ q < length (now counts) ⌝ }
+    ensures { λ r. ⌜ ((places heads : List ℕ) → Mail places heads (now (counts .entry)) →
+        Holds places heads (now (counts .exit)) (emptied (boxes places heads (now (counts .entry))) q)) ⌝ }
+{
+    counts[q] = 0;
 }
 
 // The highest object with mail, counted from 1; 0 where nothing is queued. The counts alone say it.

@@ -35,3 +35,9 @@ pub const TICK: u8 = 16;
 pub const READ: u8 = 17;
 
 pub const DRAIN: u8 = 18;
+
+pub const DEFER: u8 = 19;
+
+pub const RECALL: u8 = 20;
+
+pub const FLUSH: u8 = 21;

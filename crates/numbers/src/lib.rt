@@ -1,4 +1,4 @@
-// The numbers of document 01 that several crates use, each once. Their like in the definitions stands in the files `Numbers` of
+// The numbers of documents 01 and 02 that several crates use, each once. Their like in the definitions stands in the files `Numbers` of
 // `machine` and `chart`, in `mail`'s `Box` and in `pool`'s `Row`.
 pub mod answer;
 pub mod command;
@@ -9,6 +9,13 @@ pub const OBJECTS: usize = 16;
 pub const PLACES: usize = 16;
 
 pub const ALL_PLACES: usize = OBJECTS * PLACES;
+
+// Events are set aside in eight side queues of up to 8 entries. Each stands in a ring of as many places as a mailbox has.
+pub const SIDE_QUEUES: usize = 8;
+
+pub const MOST_ASIDE: usize = 8;
+
+pub const ALL_SIDE_PLACES: usize = SIDE_QUEUES * PLACES;
 
 // Signals are 4 to 31. Of each object there is a place for every number below 32, which says whether it subscribes.
 pub const FIRST_SIGNAL: usize = 4;

@@ -1,19 +1,21 @@
 // The tests of each command: the lowest number that applies, 0 where none does. They stand in descending number, so that the last word
 // has the lowest that holds. `spoilt`: an unused byte is not 0.
-ghost use mathlib.Core.Bool.{cond, not};
+ghost use mathlib.Core.Bool.{_&&_, cond, not};
 ghost use mathlib.Core.List.{[], _∷_};
 ghost use mathlib.Core.Path.{_≡_};
 ghost use lib.Dec.{eqb, leb};
 ghost use Rattle.machine.specs.Numbers as ranges;
-ghost use Rattle.machine.specs.Numbers.{noBlock, noDepth, noMargin, noObject, noSignal, noSize, noSlot, noTimer};
+ghost use Rattle.machine.specs.Numbers.{mostAside, noBlock, noDepth, noMargin, noObject, noSide, noSignal, noSize, noSlot, noTimer};
 ghost use Rattle.machine.specs.Reply as said;
 ghost use Rattle.machine.specs.Reply.{lowest};
 use numbers::BLOCKS;
 use numbers::FIRST_SIGNAL;
 use numbers::LARGE_BYTES;
 use numbers::LAST_SIGNAL;
+use numbers::MOST_ASIDE;
 use numbers::OBJECTS;
 use numbers::PLACES;
+use numbers::SIDE_QUEUES;
 use numbers::SLOTS;
 use numbers::TIMERS;
 use numbers::answer::ABSENT;
@@ -34,6 +36,8 @@ const LAST_TIMER: usize = TIMERS - 1;
 const LAST_SLOT: usize = SLOTS - 1;
 
 const LAST_BLOCK: usize = BLOCKS - 1;
+
+const LAST_SIDE: usize = SIDE_QUEUES - 1;
 
 const WIDEST: usize = PLACES - 1;
 
@@ -210,5 +214,54 @@ pub fn drain_refusal(spoilt: bool, tables: bool, log: bool, busy: bool) -> u8
     let n = first(BUSY, busy, 0);
     let n = first(AREA, log, n);
     let n = first(AREA, tables, n);
+    first(FORM, spoilt, n)
+}
+
+// DEFER.
+pub fn defer_refusal(spoilt: bool, q: usize, busy: bool, timer: bool, aside: usize) -> u8
+    ensures { λ r. ⌜ r ≡ lowest ((said.FORM, spoilt) ∷ (said.RANGE, noSide q) ∷ (said.NOSTEP, not busy) ∷ (said.STALE, timer)
+        ∷ (said.FULL, leb mostAside aside) ∷ []) ⌝ }
+{
+    let n = first(FULL, MOST_ASIDE <= aside, 0);
+    let n = first(STALE, timer, n);
+    let n = first(NOSTEP, !busy, n);
+    let n = first(RANGE, outside(0, LAST_SIDE, q), n);
+    first(FORM, spoilt, n)
+}
+
+// There is an entry to recall, and no place for it.
+fn no_place(aside: usize, room: usize) -> bool
+    ensures { λ r. ⌜ r ≡ (not (eqb aside 0) && eqb room 0) ⌝ }
+{
+    if aside == 0 {
+        return false;
+    }
+    room == 0
+}
+
+// RECALL.
+pub fn recall_refusal(
+    spoilt: bool,
+    q: usize,
+    p: usize,
+    started: bool,
+    aside: usize,
+    room: usize,
+) -> u8
+    ensures { λ r. ⌜ r ≡ lowest ((said.FORM, spoilt) ∷ (said.RANGE, noSide q) ∷ (said.RANGE, noObject p) ∷ (said.ABSENT, not started)
+        ∷ (said.FULL, not (eqb aside 0) && eqb room 0) ∷ []) ⌝ }
+{
+    let n = first(FULL, no_place(aside, room), 0);
+    let n = first(ABSENT, !started, n);
+    let n = first(RANGE, outside(1, OBJECTS, p), n);
+    let n = first(RANGE, outside(0, LAST_SIDE, q), n);
+    first(FORM, spoilt, n)
+}
+
+// FLUSH.
+pub fn flush_refusal(spoilt: bool, q: usize) -> u8
+    ensures { λ r. ⌜ r ≡ lowest ((said.FORM, spoilt) ∷ (said.RANGE, noSide q) ∷ []) ⌝ }
+{
+    let n = first(RANGE, outside(0, LAST_SIDE, q), 0);
     first(FORM, spoilt, n)
 }

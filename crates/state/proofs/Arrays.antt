@@ -4,7 +4,7 @@ use mathlib.Core.Path.{_≡_, sym, _∙_}
 use Prim.Native.Nat.{ℕ, _-_, _<_, _≤_}
 use native.Mathlib.Omega.{arith}
 use lib.ListN.{length, length-map}
-use Rattle.machine.specs.Numbers.{objects}
+use Rattle.machine.specs.Numbers.{objects, sideQueues}
 use Rattle.mail.specs.View.{Mail}
 use denote.Laws.{Is}
 use denote.Struct.Declared.{row}
@@ -21,6 +21,15 @@ module _ (k : Kernel) (vs : List Val) (h : Is (row the-type) k vs) where
   mail-of = record {
     places = rw rings (sym (length-map (k .places) (λ v. v)) ∙ h .1 .1 .1 .1 .1 .1 .0 .1 .0 .1);
     heads = rw rings (sym (length-map (k .heads) (λ v. v)) ∙ h .1 .1 .1 .1 .1 .1 .1 .0 .1 .0 .1);
+  }
+
+  pub side-rings : length (k .side_counts) ≡ sideQueues
+  side-rings = sym (length-map (k .side_counts) (λ v. v)) ∙ h .1 .1 .1 .1 .1 .1 .1 .1 .1 .1 .1 .0 .1 .0 .1
+
+  pub sides-of : Mail (k .side_places) (k .side_heads) (k .side_counts)
+  sides-of = record {
+    places = rw side-rings (sym (length-map (k .side_places) (λ v. v)) ∙ h .1 .1 .1 .1 .1 .1 .1 .1 .1 .0 .1 .0 .1);
+    heads = rw side-rings (sym (length-map (k .side_heads) (λ v. v)) ∙ h .1 .1 .1 .1 .1 .1 .1 .1 .1 .1 .0 .1 .0 .1);
   }
 
   -- every object has a mailbox

@@ -5,10 +5,12 @@ ghost use Rattle.machine.specs.State.{freshState, isOpen};
 ghost use Rattle.mail.specs.Entry.{handOf};
 ghost use Rattle.state.specs.View.{Good, stateOf};
 use numbers::ALL_PLACES;
+use numbers::ALL_SIDE_PLACES;
 use numbers::ALL_SIGNAL_PLACES;
 use numbers::BLOCKS;
 use numbers::OBJECTS;
 use numbers::REPLY_BYTES;
+use numbers::SIDE_QUEUES;
 use numbers::SLOTS;
 use numbers::TIMERS;
 use pool::Pool;
@@ -25,6 +27,9 @@ pub struct Kernel {
     pub places: [u16; ALL_PLACES],
     pub heads: [u8; OBJECTS],
     pub counts: [u8; OBJECTS],
+    pub side_places: [u16; ALL_SIDE_PLACES],
+    pub side_heads: [u8; SIDE_QUEUES],
+    pub side_counts: [u8; SIDE_QUEUES],
     pub depths: [u8; OBJECTS],
     pub rests: [u8; OBJECTS],
     pub seats: [u8; OBJECTS],
@@ -54,6 +59,9 @@ pub fn fresh() -> Kernel
         places: [0; ALL_PLACES],
         heads: [0; OBJECTS],
         counts: [0; OBJECTS],
+        side_places: [0; ALL_SIDE_PLACES],
+        side_heads: [0; SIDE_QUEUES],
+        side_counts: [0; SIDE_QUEUES],
         depths: [0; OBJECTS],
         rests: [0; OBJECTS],
         seats: [0; OBJECTS],

@@ -6,7 +6,7 @@
 //     NEW 6 3 7 8 9                           signal, size; then the payload's bytes
 //     ARM 0 9 6 500 0                         timer, object, signal; then ticks and interval, two bytes each
 //     TOP 1 10 · STATE 0 11 12 2 13 · ROW 1 5 1 1 15     the records of a chart, of 8 bytes
-//     19 1 2                                  a number for a name: a command record of just these bytes, then 0
+//     22 1 2                                  a number for a name: a command record of just these bytes, then 0
 //     PIECE 16 0                              as many bytes as are given
 //     FRESH                                   no record, but a mark: here a trace begins
 use check::same;
@@ -27,16 +27,16 @@ const PAYLOAD: usize = 8;
 // The number above all that are written.
 const TOO_LARGE: u32 = 65536;
 
-// What is no command has a number above theirs here.
-const TOP: u8 = 19;
+// What is no command has a number from 200 on here, so that more commands may come below.
+const TOP: u8 = 200;
 
-const STATE: u8 = 20;
+const STATE: u8 = 201;
 
-const ROW: u8 = 21;
+const ROW: u8 = 202;
 
-const PIECE: u8 = 22;
+const PIECE: u8 = 203;
 
-pub const FRESH: u8 = 23;
+pub const FRESH: u8 = 204;
 
 // A name or a number, as far as it was read.
 struct Word {
@@ -153,9 +153,17 @@ fn other_command(other: u8, word: &[u8]) -> u8 {
     named(n, word, b"TICK", command::TICK)
 }
 
+// The commands of side queues.
+fn side_command(other: u8, word: &[u8]) -> u8 {
+    let n = named(other, word, b"DEFER", command::DEFER);
+    let n = named(n, word, b"RECALL", command::RECALL);
+    named(n, word, b"FLUSH", command::FLUSH)
+}
+
 // The number of a name, 0 if there is no such name.
 fn number_of(word: &[u8]) -> u8 {
     let n = other_command(event_command(0, word), word);
+    let n = side_command(n, word);
     let n = named(n, word, b"TOP", TOP);
     let n = named(n, word, b"STATE", STATE);
     let n = named(n, word, b"ROW", ROW);

@@ -93,8 +93,11 @@ mod tests {
     use super::*;
     use crate::harness::starts::missing_is_the_only_fault;
     use crate::kernel::command::Command;
+    use crate::kernel::numbers::BLOCKS;
     use crate::kernel::replay::{chart_for, replay};
     use crate::kernel::reply::Refusal;
+    use crate::kernel::Kernel;
+    use std::collections::BTreeSet;
 
     #[test]
     fn the_replies_are_those_of_a_replay() {
@@ -132,6 +135,52 @@ mod tests {
         assert!(traces.filter(refuses_one).count() >= 2);
     }
 
+    /// What a command came to with the side queues that its reply does not show.
+    fn unshown(record: &[u8], answer: u8, before: &Kernel, after: &Kernel) -> Vec<&'static str> {
+        let absent = Refusal::Absent as u8;
+        match (Command::read(record), answer) {
+            (Some(Command::Recall { q, p }), 0) => {
+                let is_empty = before.set_aside(q) == 0;
+                let open = before.step_is_open().then_some("RECALL with a step open");
+                let full = is_empty && before.free_places(p) == 0;
+                let full = full.then_some("RECALL of nothing to a full mailbox");
+                open.into_iter().chain(full).collect()
+            }
+            (Some(Command::Recall { q, .. }), refused) if refused == absent => {
+                vec![match before.set_aside(q) {
+                    0 => "RECALL of nothing to an absent object",
+                    _ => "RECALL of an entry to an absent object",
+                }]
+            }
+            (Some(Command::Flush { .. }), 0) => {
+                let lost = |&block: &u8| after.references(block) < before.references(block);
+                let of_block = |block: u8| match (before.references(block), after.references(block))
+                {
+                    (1, 0) => "FLUSH of a block's only reference",
+                    (_, 0) => "FLUSH of all of a block's several references",
+                    _ => "FLUSH that leaves a block references",
+                };
+                BLOCKS.filter(lost).map(of_block).collect()
+            }
+            _ => Vec::new(),
+        }
+    }
+
+    #[test]
+    fn side_queues_meet_what_no_reply_shows() {
+        let mut seen = BTreeSet::new();
+        for seed in 0..60 {
+            let trace = Trace::random(seed, 500);
+            let mut program = Program::fresh(trace.charts.clone());
+            for (record, reply) in trace.exchanges() {
+                let before = program.kernel().clone();
+                program.answer(record);
+                seen.extend(unshown(record, reply[0], &before, program.kernel()));
+            }
+        }
+        assert_eq!(seen.len(), 7, "{seen:?}");
+    }
+
     /// DRAIN is NEXT and END, so a trace with these in its place ends in the same state.
     #[test]
     fn a_drain_is_its_steps_one_by_one() {
@@ -153,6 +202,22 @@ mod tests {
                     }
                 }
                 assert!(drained.kernel() == stepped.kernel());
+            }
+        }
+    }
+
+    #[test]
+    fn a_block_goes_back_exactly_with_its_last_reference() {
+        for seed in 0..20 {
+            let trace = Trace::random(seed, 300);
+            let mut program = Program::fresh(trace.charts.clone());
+            for (record, _) in trace.exchanges() {
+                let before = program.kernel().clone();
+                program.answer(record);
+                for block in BLOCKS.filter(|&block| before.references(block) > 0) {
+                    let is_back = program.kernel().is_stale(before.handle(block));
+                    assert_eq!(is_back, program.kernel().references(block) == 0);
+                }
             }
         }
     }

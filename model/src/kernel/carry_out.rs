@@ -98,6 +98,9 @@ impl Kernel {
             }
             Read { handle } => self.read(handle, areas.payloads),
             Drain { budget } => self.drain(budget, areas),
+            Defer { q } => self.defer(q),
+            Recall { q, p } => Reply::value(self.recall(q, p)),
+            Flush { q } => Reply::value(self.flush(q)),
         }
     }
 
@@ -197,6 +200,34 @@ impl Kernel {
 
     fn can_step(&self, tables: &[u8]) -> bool {
         !self.nothing_is_queued() && !self.next_row_is_unsound(tables)
+    }
+
+    /// The step stays open: the hand keeps its own reference.
+    fn defer(&mut self, q: u8) -> Reply {
+        let Some(Event::Block(block)) = self.in_hand else {
+            unreachable!("a block event is in hand");
+        };
+        self.side_queues.put_last(q, block);
+        Reply::value(self.set_aside(q))
+    }
+
+    /// Moves the oldest entry of a side queue to the front of a mailbox; whether there was one.
+    fn recall(&mut self, q: u8, p: u8) -> bool {
+        let oldest = self.side_queues.take_oldest(q);
+        if let Some(block) = oldest {
+            self.object_mut(p).post_front(Event::Block(block));
+        }
+        oldest.is_some()
+    }
+
+    /// Lets go all entries of a side queue, one by one, so that a block goes back with
+    /// its last entry and not before; how many there were.
+    fn flush(&mut self, q: u8) -> u8 {
+        let entries = self.set_aside(q);
+        while let Some(block) = self.side_queues.take_oldest(q) {
+            self.free_without_reference(block);
+        }
+        entries
     }
 
     fn handle_bytes(&self, event: Event) -> [u8; 2] {

@@ -7,7 +7,7 @@ const HEAD_BYTES: usize = 8;
 const PAYLOAD_BYTES: usize = RECORD_BYTES - HEAD_BYTES;
 
 /// The commands' names by number, LOAD being 1.
-pub const COMMAND_NAMES: [&str; 18] = [
+pub const COMMAND_NAMES: [&str; 21] = [
     "LOAD",
     "START",
     "NEW",
@@ -26,6 +26,9 @@ pub const COMMAND_NAMES: [&str; 18] = [
     "TICK",
     "READ",
     "DRAIN",
+    "DEFER",
+    "RECALL",
+    "FLUSH",
 ];
 
 #[derive(Clone, Copy, Debug, PartialEq, Eq)]
@@ -98,6 +101,16 @@ pub enum Command {
     Drain {
         budget: u8,
     },
+    Defer {
+        q: u8,
+    },
+    Recall {
+        q: u8,
+        p: u8,
+    },
+    Flush {
+        q: u8,
+    },
 }
 
 use Command::*;
@@ -169,6 +182,9 @@ impl Command {
             Tick => [16, 0, 0, 0, 0, 0, 0, 0],
             Read { handle } => with_handle(17, handle),
             Drain { budget } => [18, budget, 0, 0, 0, 0, 0, 0],
+            Defer { q } => [19, q, 0, 0, 0, 0, 0, 0],
+            Recall { q, p } => [20, q, p, 0, 0, 0, 0, 0],
+            Flush { q } => [21, q, 0, 0, 0, 0, 0, 0],
         }
     }
 }
@@ -213,6 +229,9 @@ fn read_head(head: &[u8], payload: &[u8]) -> Option<Command> {
         [16, 0, 0, 0, 0, 0, 0, 0] => Tick,
         [17, _, _, 0, 0, 0, 0, 0] => Read { handle },
         [18, budget, 0, 0, 0, 0, 0, 0] => Drain { budget },
+        [19, q, 0, 0, 0, 0, 0, 0] => Defer { q },
+        [20, q, p, 0, 0, 0, 0, 0] => Recall { q, p },
+        [21, q, 0, 0, 0, 0, 0, 0] => Flush { q },
         _ => return None,
     })
 }
@@ -230,7 +249,9 @@ mod tests {
 
     /// A record with as many arguments as its command uses, none of them 0.
     fn with_all_arguments(number: u8) -> [u8; RECORD_BYTES] {
-        let used = [1, 3, 2, 4, 3, 2, 2, 2, 2, 2, 2, 0, 0, 7, 1, 0, 2, 1];
+        let used = [
+            1, 3, 2, 4, 3, 2, 2, 2, 2, 2, 2, 0, 0, 7, 1, 0, 2, 1, 1, 2, 1,
+        ];
         let mut record = record(&[number]);
         record[1..=used[usize::from(number) - 1]].fill(1);
         record
@@ -270,11 +291,15 @@ mod tests {
             Some(arm)
         );
         assert_eq!(Command::read(&record(&[17, 7, 8])), Some(Read { handle }));
+        assert_eq!(
+            Command::read(&record(&[20, 5, 9])),
+            Some(Recall { q: 5, p: 9 })
+        );
     }
 
     #[test]
     fn each_number_is_read_and_written() {
-        for number in 1..=18 {
+        for number in 1..=21 {
             let record = with_all_arguments(number);
             let command = Command::read(&record).expect("a right form");
             assert_eq!(command.record(), record);
@@ -283,7 +308,7 @@ mod tests {
 
     #[test]
     fn each_unused_byte_must_be_0() {
-        for number in 1..=18 {
+        for number in 1..=21 {
             let right = with_all_arguments(number);
             let unused = (1..RECORD_BYTES).filter(|&place| right[place] == 0);
             for place in unused {
@@ -314,7 +339,7 @@ mod tests {
 
     #[test]
     fn unknown_numbers_and_other_lengths() {
-        for number in (0..=255).filter(|number| !(1..=18).contains(number)) {
+        for number in (0..=255).filter(|number| !(1..=21).contains(number)) {
             assert_eq!(Command::read(&record(&[number])), None);
         }
         let next = record(&[12]);

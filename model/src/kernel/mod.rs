@@ -1,5 +1,6 @@
 //! The event kernel, driven by command records.
 
+mod aside;
 mod carry_out;
 pub mod command;
 mod mail;
@@ -13,6 +14,7 @@ mod tests;
 mod timers;
 
 use crate::chart::{self, ROW_BYTES, SLOT_BYTES};
+use aside::SideQueues;
 use command::{Command, Handle};
 use mail::{Event, Object};
 use numbers::{PRIORITIES, REPLY_BYTES};
@@ -31,6 +33,7 @@ pub struct Kernel {
     /// Pairs of signal and priority.
     subscriptions: BTreeSet<(u8, u8)>,
     timers: Timers,
+    side_queues: SideQueues,
     /// A step is open while there is one.
     in_hand: Option<Event>,
 }
@@ -69,6 +72,7 @@ impl Kernel {
             loaded_slots: BTreeSet::new(),
             subscriptions: BTreeSet::new(),
             timers: Timers::default(),
+            side_queues: SideQueues::fresh(),
             in_hand: None,
         }
     }
@@ -148,12 +152,13 @@ impl Kernel {
         }
     }
 
-    /// References to a block: its holds, its mailbox entries, the hand. They
-    /// are counted anew each time, so that no counter can go astray.
+    /// References to a block: its holds, its mailbox entries, its side entries,
+    /// the hand. They are counted anew each time, so that no counter can go astray.
     pub fn references(&self, block: u8) -> usize {
         let queued: usize = self.objects.values().map(|o| o.entries_of(block)).sum();
+        let set_aside = self.side_queues.entries_of(block);
         let in_hand = self.in_hand == Some(Event::Block(block));
-        usize::from(self.holds(block)) + queued + usize::from(in_hand)
+        usize::from(self.holds(block)) + queued + set_aside + usize::from(in_hand)
     }
 
     fn subscribers(&self, signal: u8) -> Vec<u8> {
@@ -186,6 +191,10 @@ impl Kernel {
         self.in_hand.is_some()
     }
 
+    pub fn timer_is_in_hand(&self) -> bool {
+        matches!(self.in_hand, Some(Event::Timer { .. }))
+    }
+
     fn nothing_is_queued(&self) -> bool {
         self.next_event().is_none()
     }
@@ -200,6 +209,11 @@ impl Kernel {
 
     pub fn is_armed(&self, timer: u8) -> bool {
         self.timers.is_armed(timer)
+    }
+
+    /// The entries of a side queue.
+    pub fn set_aside(&self, q: u8) -> u8 {
+        self.side_queues.entries(q)
     }
 
     /// The holds on the event in a block; 0 if there is none.

@@ -1,4 +1,4 @@
-//! The numbers of the kernel, as document 01 gives them.
+//! The numbers of the kernel, as documents 01 and 02 give them.
 
 use crate::chart;
 use std::ops::RangeInclusive;
@@ -13,6 +13,9 @@ pub const BLOCKS: RangeInclusive<u8> = 0..=55;
 pub const SIZES: RangeInclusive<u8> = 0..=64;
 pub const MARGINS: RangeInclusive<u8> = 0..=15;
 pub const MOST_HOLDS: u8 = 15;
+pub const SIDE_QUEUES: RangeInclusive<u8> = 0..=7;
+/// In one side queue.
+pub const MOST_SET_ASIDE: u8 = 8;
 
 pub const PAYLOADS_BYTES: usize = 1_536;
 pub const TABLES_BYTES: usize = 64_608;

@@ -1,4 +1,4 @@
-//! When a command is refused: the table of document 01, command by command.
+//! When a command is refused: document 01's table with document 02's additions, command by command.
 
 use super::command::Command::{self, *};
 use super::mail::Object;
@@ -117,6 +117,19 @@ impl Kernel {
                 (Refusal::Area, lent.log_length != LOG_BYTES),
                 (Refusal::Busy, self.step_is_open()),
             ],
+            Defer { q } => vec![
+                (Refusal::Range, !SIDE_QUEUES.contains(&q)),
+                (Refusal::NoStep, !self.step_is_open()),
+                (Refusal::Stale, self.timer_is_in_hand()),
+                (Refusal::Full, self.set_aside(q) == MOST_SET_ASIDE),
+            ],
+            Recall { q, p } => vec![
+                (Refusal::Range, !SIDE_QUEUES.contains(&q)),
+                (Refusal::Range, !PRIORITIES.contains(&p)),
+                (Refusal::Absent, !self.is_started(p)),
+                (Refusal::Full, self.has_no_place_for_oldest(q, p)),
+            ],
+            Flush { q } => vec![(Refusal::Range, !SIDE_QUEUES.contains(&q))],
         }
     }
 
@@ -125,7 +138,7 @@ impl Kernel {
     }
 
     /// None for an object that is not started.
-    fn free_places(&self, p: u8) -> u8 {
+    pub fn free_places(&self, p: u8) -> u8 {
         self.objects.get(&p).map_or(0, Object::free_places)
     }
 
@@ -134,6 +147,11 @@ impl Kernel {
             let mut subscribers = self.subscribers(content.signal).into_iter();
             subscribers.any(|p| self.free_places(p) == 0)
         })
+    }
+
+    /// An empty side queue needs no place.
+    fn has_no_place_for_oldest(&self, q: u8, p: u8) -> bool {
+        self.set_aside(q) > 0 && self.free_places(p) == 0
     }
 
     /// No row, no unsound row: IDLE or AREA stands for that.

@@ -1,7 +1,7 @@
 use borrow.Author.Needs.{needs}
 use mathlib.Core.Path.{refl}
 use Rattle.machine.proofs.Fresh.{fresh-inv}
-use Rattle.machine.specs.Numbers.{objects}
+use Rattle.machine.specs.Numbers.{objects, sideQueues}
 use Rattle.mail.specs.Entry.{handOf}
 use Rattle.mail.specs.View.{boxes-fresh}
 use Rattle.state.specs.View.{stateOf}
@@ -10,7 +10,7 @@ use Rattle.state.proofs.fresh.Tie as tie
 
 returns : tie.Need-returns
 unfolding stateOf handOf
-returns c = (rw (c .fresh .ensures, boxes-fresh objects) refl, rw (c .fresh .ensures, boxes-fresh objects) fresh-inv)
+returns c = (rw (c .fresh .ensures, boxes-fresh objects, boxes-fresh sideQueues) refl, rw (c .fresh .ensures, boxes-fresh objects, boxes-fresh sideQueues) fresh-inv)
 
 pub fresh-spec : {M : Type 1} → statement M
 fresh-spec = tie.close (tie.spec (λ c κs. search needs) returns)

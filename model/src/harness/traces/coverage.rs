@@ -45,7 +45,7 @@ const fn refused_chart(name: &'static str, shows: fn(&[u8]) -> bool) -> Case {
 }
 
 /// What good traces come to besides every answer; values are bytes 4 and 5.
-const CASES: [Case; 43] = [
+const CASES: [Case; 51] = [
     refused_chart("class 1", |reply| reply[4] == 1),
     refused_chart("class 2", |reply| reply[4] == 2),
     refused_chart("class 3", |reply| reply[4] == 3),
@@ -107,6 +107,14 @@ const CASES: [Case; 43] = [
     done("DRAIN", "budget spent, more queued", |reply| {
         reply[4] > 0 && reply[5] == 0
     }),
+    done("DEFER", "the first", |reply| reply[4] == 1),
+    done("DEFER", "behind others", |reply| reply[4] > 1),
+    done("DEFER", "the eighth", |reply| reply[4] == 8),
+    done("RECALL", "an entry", |reply| reply[4] == 1),
+    done("RECALL", "no entry", |reply| reply[4] == 0),
+    done("FLUSH", "no entry", |reply| reply[4] == 0),
+    done("FLUSH", "some entries", |reply| (1..8).contains(&reply[4])),
+    done("FLUSH", "eight entries", |reply| reply[4] == 8),
 ];
 
 /// How often each answer was given to each command, and each case came about.

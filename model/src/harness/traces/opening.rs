@@ -20,7 +20,8 @@ pub fn random_opening(random: &mut Xorshift, charts: &Charts, signal: u8) -> Vec
     }
 }
 
-/// One event in all 256 mailbox places, in hand, and held 15 times.
+/// One event in all 256 mailbox places, in all 64 places of the side queues, in hand, and
+/// held 15 times.
 fn pile(slot: u8, signal: u8) -> Vec<Command> {
     let handle = Handle {
         block: 0,
@@ -35,6 +36,9 @@ fn pile(slot: u8, signal: u8) -> Vec<Command> {
     commands.extend(DEPTHS.map(|_| Command::Publish { handle }));
     commands.extend((0..MOST_HOLDS).map(|_| Command::Hold { handle }));
     commands.push(Command::Next);
+    for q in SIDE_QUEUES {
+        commands.extend((0..MOST_SET_ASIDE).map(|_| Command::Defer { q }));
+    }
     commands.push(Command::Post {
         handle,
         p: *PRIORITIES.end(),
@@ -82,7 +86,7 @@ mod tests {
     #[test]
     fn a_pile_has_all_references_that_an_event_can_have() {
         let program = program_after(&pile(0, 31));
-        assert_eq!(program.kernel().references(0), 256 + 1 + 15);
+        assert_eq!(program.kernel().references(0), 256 + 64 + 1 + 15);
     }
 
     #[test]

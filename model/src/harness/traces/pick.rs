@@ -12,7 +12,7 @@ use std::ops::RangeInclusive;
 /// Makes a command for a kernel in some state.
 type Make = fn(&mut Picker, &Kernel) -> Command;
 
-const ALL: [Make; 18] = [
+const ALL: [Make; 21] = [
     Picker::load,
     Picker::start,
     Picker::new_event,
@@ -31,6 +31,9 @@ const ALL: [Make; 18] = [
     Picker::tick,
     Picker::read,
     Picker::drain,
+    Picker::defer,
+    Picker::recall,
+    Picker::flush,
 ];
 
 /// The commands that a stretch of a trace is mostly about, and how likely each
@@ -70,6 +73,20 @@ const TIMING: Mood = &[
     (Picker::disarm, 1),
     (Picker::tick, 8),
     (Picker::step, 4),
+    (Picker::defer, 1),
+];
+const SETTING_ASIDE: Mood = &[
+    (Picker::set_aside, 12),
+    (Picker::step, 4),
+    (Picker::post, 2),
+    (Picker::tick, 1),
+    (Picker::recall, 1),
+];
+const CALLING_BACK: Mood = &[
+    (Picker::call_back, 8),
+    (Picker::step, 6),
+    (Picker::set_aside, 3),
+    (Picker::flush, 1),
 ];
 const READING_TABLES: Mood = &[
     (Picker::step, 4),
@@ -77,7 +94,7 @@ const READING_TABLES: Mood = &[
     (Picker::start, 2),
     (Picker::load, 1),
 ];
-const MOODS: [Mood; 16] = [
+const MOODS: [Mood; 20] = [
     SETTING_UP,
     POSTING,
     POSTING,
@@ -94,6 +111,10 @@ const MOODS: [Mood; 16] = [
     RELEASING,
     TIMING,
     TIMING,
+    SETTING_ASIDE,
+    SETTING_ASIDE,
+    CALLING_BACK,
+    CALLING_BACK,
 ];
 
 pub struct Picker {
@@ -173,7 +194,7 @@ impl Picker {
     /// Sets one byte of the record; most often its form is wrong then.
     fn spoil(&mut self, record: &mut [u8; RECORD_BYTES]) {
         match self.random.below(5) {
-            0 => record[0] = self.random.pick(&[0, 19, 20, 128, 255]),
+            0 => record[0] = self.random.pick(&[0, 22, 23, 128, 255]),
             1 | 2 => record[1 + self.random.below(7)] = self.random.byte(),
             _ => record[8 + self.random.below(64)] = self.random.byte(),
         }
@@ -346,6 +367,52 @@ impl Picker {
         }
     }
 
+    fn defer(&mut self, kernel: &Kernel) -> Command {
+        let most = most_set_aside(kernel);
+        Command::Defer {
+            // Rather one side queue with many entries than many with one.
+            q: self.side_queue(|q| kernel.set_aside(q) == most),
+        }
+    }
+
+    /// Sets the event in hand aside, or goes on to the next one that can be.
+    fn set_aside(&mut self, kernel: &Kernel) -> Command {
+        if kernel.step_is_open() && !kernel.timer_is_in_hand() {
+            self.defer(kernel)
+        } else {
+            self.step(kernel)
+        }
+    }
+
+    fn recall(&mut self, kernel: &Kernel) -> Command {
+        let most = most_set_aside(kernel);
+        Command::Recall {
+            // The one that DEFER likes, so that many entries pass through it.
+            q: self.side_queue(|q| kernel.set_aside(q) == most),
+            p: self.started_object(kernel),
+        }
+    }
+
+    /// Calls an event back, or sees to it that there is one.
+    fn call_back(&mut self, kernel: &Kernel) -> Command {
+        if most_set_aside(kernel) > 0 {
+            self.recall(kernel)
+        } else {
+            self.set_aside(kernel)
+        }
+    }
+
+    fn flush(&mut self, kernel: &Kernel) -> Command {
+        Command::Flush {
+            q: self.side_queue(|q| kernel.set_aside(q) > 0),
+        }
+    }
+
+    fn side_queue(&mut self, wanted: impl Fn(u8) -> bool) -> u8 {
+        let q = self.mostly(SIDE_QUEUES, wanted);
+        self.or_wrong(q, &[8, 255])
+    }
+
     fn started_object(&mut self, kernel: &Kernel) -> u8 {
         let p = self.mostly(PRIORITIES, |p| kernel.is_started(p));
         self.or_wrong(p, &[0, 17, 255])
@@ -418,6 +485,12 @@ impl Picker {
 fn live_blocks(kernel: &Kernel) -> Vec<u8> {
     let is_live = |block: &u8| !kernel.is_stale(kernel.handle(*block));
     BLOCKS.filter(is_live).collect()
+}
+
+/// The entries of the fullest side queue.
+fn most_set_aside(kernel: &Kernel) -> u8 {
+    let entries = SIDE_QUEUES.map(|q| kernel.set_aside(q));
+    entries.max().expect("there are side queues")
 }
 
 /// One signal of any kind, and some for which a chart has rows.

@@ -1,5 +1,6 @@
-//! Cases of document 01, written by hand.
+//! Cases of documents 01 and 02, written by hand.
 
+mod aside;
 mod commands;
 mod drain;
 mod mail;

@@ -68,6 +68,11 @@ fn every_argument_has_its_range() {
         arm(0, 5, 4, 0),
         Disarm { timer: 16 },
         Read { handle: no_block },
+        Defer { q: 8 },
+        Recall { q: 8, p: 5 },
+        Recall { q: 0, p: 0 },
+        Recall { q: 0, p: 17 },
+        Flush { q: 8 },
     ];
     for command in out_of_range {
         bench.expect(command, &[3]);
@@ -123,6 +128,9 @@ fn with_a_step_open_four_commands_are_busy() {
         Disarm { timer: 0 },
         Tick,
         Read { handle: event },
+        Defer { q: 0 },
+        Recall { q: 1, p: 5 },
+        Flush { q: 0 },
     ];
     for command in going_on {
         assert_eq!(bench.send(command)[0], 0, "{command:?}");
@@ -246,10 +254,18 @@ fn other_commands_take_areas_of_any_length() {
         assert_eq!(answer[0], 0, "{command:?}");
     }
     bench.expect(Next, &[0, 5, 31, 0, 0, 0]);
-    let end = bench
-        .kernel
-        .command(&End.record(), &[], &mut [], &mut [], &mut []);
-    assert_eq!(end, reply(&[0]));
+    let in_a_step = [
+        (Defer { q: 0 }, reply(&[0, 0, 0, 0, 1])),
+        (Recall { q: 0, p: 5 }, reply(&[0, 0, 0, 0, 1])),
+        (Flush { q: 0 }, reply(&[0])),
+        (End, reply(&[0])),
+    ];
+    for (command, expected) in in_a_step {
+        let answer = bench
+            .kernel
+            .command(&command.record(), &[], &mut [], &mut [], &mut []);
+        assert_eq!(answer, expected, "{command:?}");
+    }
     let other = bench.new_event(31, 16);
     let dropping = Drop { handle: other }.record();
     let dropped = bench
