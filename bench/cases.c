@@ -95,8 +95,12 @@ const struct bench_case cases[] = {
      .record = {TRUNHOAC_DEFER, 0}, .expected = {.reply = {[VALUES] = 1}}},
     {.name = "RECALL, nothing set aside", .call = COMMAND, .prepare = all_started,
      .record = {TRUNHOAC_RECALL, 0, 9}, .expected = {.reply = {[VALUES] = 0}}},
+    {.name = "RECALL, one entry", .call = COMMAND, .prepare = event_aside_once,
+     .record = {TRUNHOAC_RECALL, 0, 9}, .expected = {.reply = {[VALUES] = 1}}},
     {.name = "FLUSH, nothing set aside", .call = COMMAND, .prepare = all_started,
      .record = {TRUNHOAC_FLUSH, 0}, .expected = {.reply = {[VALUES] = 0}}},
+    {.name = "FLUSH, 8 entries, freeing", .call = COMMAND, .prepare = event_aside_eight_times,
+     .record = {TRUNHOAC_FLUSH, 0}, .expected = {.reply = {[VALUES] = 8}}},
 
     {.name = "chart_check, shift chart", .call = CHECK, .prepare = all_started, .chart = SHIFT_CHART,
      .expected = {.class = 0}},

@@ -67,6 +67,18 @@ static void next(struct state *state)
     give(state, trunhoac_fill_next(record));
 }
 
+static void end(struct state *state)
+{
+    uint8_t record[TRUNHOAC_RECORD_BYTES];
+    give(state, trunhoac_fill_end(record));
+}
+
+static void defer(struct state *state)
+{
+    uint8_t record[TRUNHOAC_RECORD_BYTES];
+    give(state, trunhoac_fill_defer(record, 0));
+}
+
 /* Timer 0 belongs to object 1, and so on. */
 static void arm(struct state *state, uint8_t timer, uint16_t ticks)
 {
@@ -163,6 +175,24 @@ void event_in_hand_and_queued(struct state *state)
     event_at_nine(state);
     post(state, 5);
     next(state);
+}
+
+static void event_aside(struct state *state, int times)
+{
+    event_in_hand(state);
+    for (int aside = 0; aside < times; aside++)
+        defer(state);
+    end(state);
+}
+
+void event_aside_once(struct state *state)
+{
+    event_aside(state, 1);
+}
+
+void event_aside_eight_times(struct state *state)
+{
+    event_aside(state, TRUNHOAC_MOST_ASIDE);
 }
 
 void one_timer_counting(struct state *state)

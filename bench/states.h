@@ -49,6 +49,10 @@ void event_and_sixteen_subscribers(struct state *state);
 void event_in_hand(struct state *state);
 void event_in_hand_and_queued(struct state *state);
 
+/* No step is open, and the event is set aside in side queue 0, so many times, and counted nowhere else. */
+void event_aside_once(struct state *state);
+void event_aside_eight_times(struct state *state);
+
 void one_timer_counting(struct state *state);
 void sixteen_timers_counting(struct state *state);
 void sixteen_timers_due(struct state *state);

@@ -50,7 +50,7 @@ fn is_timer(h: Hand) -> bool
 
 // The block event in hand goes last into side queue q, which has room.
 fn set_aside(mut k: Kernel, q: usize) -> Kernel
-    requires { ⌜ (q < sideQueues) × (getD (k .side_counts) q 0 < room) × IsBlock (handOf (k .hand)) ⌝ }
+    requires { ⌜ (q < sideQueues) × (length (sideOf (stateOf k) q) < room) × IsBlock (handOf (k .hand)) ⌝ }
     ensures { λ r. ⌜ stateOf r ≡ setAside (handOf (k .hand)) q (stateOf k) ⌝ }
 {
     let mut places = k.side_places;
@@ -83,7 +83,7 @@ pub fn defer(k: Kernel, spoilt: bool, q: usize) -> Answered
 
 // The oldest entry of side queue q moves to the front of p's mailbox, which has room.
 fn bring_back(mut k: Kernel, q: usize, p: usize) -> Kernel
-    requires { ⌜ (q < sideQueues) × (0 < getD (k .side_counts) q 0) ⌝ }
+    requires { ⌜ (q < sideQueues) × (0 < length (sideOf (stateOf k) q)) ⌝ }
     requires { ⌜ (1 ≤ p) × (p ≤ objects) × (getD (k .counts) (p - 1) 0 < room) ⌝ }
     ensures { λ r. ⌜ stateOf r ≡ recalled (stateOf k) q p ⌝ }
 {
@@ -161,7 +161,7 @@ fn list_blocks(
 
 // Each of the n entries of side queue q is let go.
 fn let_go_aside(mut k: Kernel, q: usize, n: usize) -> Kernel
-    requires { ⌜ Good k × (q < sideQueues) × (n ≡ getD (k .side_counts) q 0) ⌝ }
+    requires { ⌜ Good k × (q < sideQueues) × (n ≡ length (sideOf (stateOf k) q)) ⌝ }
     ensures { λ r. ⌜ stateOf r ≡ flushed (stateOf k) q ⌝ }
 {
     let places = k.side_places;

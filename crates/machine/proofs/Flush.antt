@@ -37,12 +37,12 @@ let-go-each (e ∷ l) s m =
     (let-go-each l (withCells (changed fewer (s .cells) x) s) (omega (arith, changed-length fewer (s .cells) x)))
 
 -- The block that an event is.
-record ABlock (h : Hand) : Type 0 where
-  block : ℕ
-  is : h ≡ Block block
-  within : block < blocks
+pub record ABlock (h : Hand) : Type 0 where
+  pub block : ℕ
+  pub is : h ≡ Block block
+  pub within : block < blocks
 
-a-block : (h : Hand) → IsBlock h → ABlock h
+pub a-block : (h : Hand) → IsBlock h → ABlock h
 unfolding IsBlock
 a-block Nothing is = absurd is
 a-block (Block b) is = record { block = b; is = refl; within = is }

@@ -6,7 +6,7 @@ use native.Mathlib.Omega.{arith}
 use borrow.Author.Tests.{eqb-false, eq-eqb, ne-eqb, leb-false}
 use lib.Dec.{eqb}
 use lib.ListN.{length}
-use Rattle.mail.specs.Box.{front, pushFront, tookFront, emptied}
+use Rattle.mail.specs.Box.{pushFront, tookFront, emptied}
 use Rattle.mail.specs.Entry.{entryOf, handOf}
 use Rattle.mail.specs.Laws.{occurrences-front, occurrences-took, occurrences-emptied}
 use Rattle.mail.specs.declared.Hand.{Hand}
@@ -17,7 +17,7 @@ use Rattle.machine.proofs.Counts.{refers, live-counted}
 use Rattle.machine.proofs.Flush.{let-go-each, gone-counted}
 use Rattle.machine.proofs.Parts.{mail-front, sides-took, sides-emptied}
 use Rattle.machine.proofs.Tests.{within-low, within-high, unless-state}
-use Rattle.machine.specs.Aside.{deferTests, setAside, defer, recallTests, recalled, recallDone, recall, flushTests, flushed, flush}
+use Rattle.machine.specs.Aside.{deferTests, setAside, defer, recallTests, oldest, recalled, recallDone, recall, flushTests, flushed, flush}
 use Rattle.machine.specs.Inv.{Inv, references, inHand, isLive, IsEvent, IsBlock, InHand}
 use Rattle.machine.specs.Numbers.{objects, sideQueues, mostAside, noSide}
 use Rattle.machine.specs.Reply.{Areas}
@@ -48,7 +48,7 @@ module _ (s : State) (i : Inv s) where
     pub recalled-keeps : (p : ℕ) → 1 ≤ p → p ≤ objects → 0 < length (sideOf s q) → 0 < room s p → Inv (recalled s q p)
     unfolding recalled references
     recalled-keeps p low high some free =
-        let e = front (s .sides) q in
+        let e = oldest (sideOf s q) in
         events-inv s (s .cells) (s .events) (pushFront (s .boxes) (p - 1) e) (tookFront (s .sides) q) (s .hand) i (i .store)
         (mail-front (s .boxes) (s .objects .depths) (p - 1) (i .mail) (omega arith) e (omega arith) (block-event (handOf e) (i .aside .entries q 0 some)))
         (sides-took (s .sides) q (i .aside) l)

@@ -3,8 +3,8 @@ use mathlib.Core.Bool.{Bool, true, false, not, _&&_}
 use mathlib.Core.List.{List, [], _∷_}
 use Prim.Native.Nat.{ℕ, zero, suc, _+_, _-_}
 use lib.Dec.{eqb, leb}
-use lib.ListN.{length}
-use Rattle.mail.specs.Box.{changed, emptied, front, pushBack, pushFront, tookFront}
+use lib.ListN.{length, getD}
+use Rattle.mail.specs.Box.{pushBack, pushFront, tookFront, emptied}
 use Rattle.mail.specs.Entry.{entryOf, handOf}
 use Rattle.mail.specs.declared.Hand.{Hand}
 use Rattle.mail.specs.declared.Hand.the-variants.{Nothing, Block, Timer}
@@ -47,8 +47,11 @@ recallTests spoilt q p s =
     ∷ (FULL, not (eqb (length (sideOf s q)) 0) && eqb (room s p) 0)
     ∷ []
 
+abbrev pub oldest : List ℕ → ℕ
+oldest l = getD l 0 0
+
 unfoldable pub recalled : State → ℕ → ℕ → State
-recalled s q p = withBoxes (pushFront (s .boxes) (p - 1) (front (s .sides) q)) (withSides (tookFront (s .sides) q) s)
+recalled s q p = withBoxes (pushFront (s .boxes) (p - 1) (oldest (sideOf s q))) (withSides (tookFront (s .sides) q) s)
 
 unfoldable pub recallDone : ℕ → ℕ → ℕ → State → Areas → Answer
 recallDone zero q p s z = answer s (done 0 0) z

@@ -8,7 +8,7 @@ use native.Mathlib.Decide.{decLt}
 use native.Mathlib.Nat.{not-suc-le-zero, le-of-suc-le-suc, eq-or-lt-of-le, mul-suc}
 use native.Mathlib.Numerals.{add-one}
 use native.Mathlib.Omega.{arith}
-use borrow.Author.Tests.{eqb-true, eqb-false, ne-eqb, lt-ltb, le-ltb}
+use borrow.Author.Tests.{eqb-true, eqb-false, eq-eqb, ne-eqb, lt-ltb, le-ltb}
 use lib.Dec.{eqb, ltb}
 use lib.ListN.{length, getD, set, length-set, length-append, length-drop, List·getD-append, List·getD-eq-default}
 use lib.Seq.{getD-set-same, getD-set-other, getD-append-seam, set-out}
@@ -93,6 +93,12 @@ module _ (f : List ℕ → ℕ) where
   unfolding changed
   total-changed g bs q l = total-set bs q (g (boxAt bs q)) l
 
+  total-has : (bs : List (List ℕ)) (q : ℕ) → q < length bs → f (boxAt bs q) ≤ total f bs
+  unfolding total
+  total-has [] q l = absurd (not-suc-le-zero l)
+  total-has (b ∷ bs) zero l = omega arith
+  total-has (b ∷ bs) (suc q) l = omega (arith, total-has bs q (le-of-suc-le-suc l))
+
   pub total-most : (m : ℕ) (bs : List (List ℕ)) → ((q : ℕ) → f (boxAt bs q) ≤ m) → total f bs ≤ m * length bs
   unfolding total
   total-most m [] h = omega arith
@@ -124,7 +130,19 @@ module _ (e : ℕ) where
   times-most [] = omega arith
   times-most (x ∷ b) = let m = times-most b in cond-pick (λ k. k + timesIn e b ≤ suc (length b)) (eqb x e) 1 0 (λ t. omega arith) (λ t. omega arith)
 
+times-has : (b : List ℕ) (i : ℕ) → i < length b → 0 < timesIn (getD b i 0) b
+unfolding timesIn
+times-has [] i l = absurd (not-suc-le-zero l)
+times-has (x ∷ b) zero l = rw (eq-eqb x x refl) (omega arith)
+times-has (x ∷ b) (suc i) l = omega (arith, times-has b i (le-of-suc-le-suc l))
+
 module _ (bs : List (List ℕ)) (q : ℕ) where
+  -- an entry that is there occurs
+  pub occurrences-has : (i : ℕ) → i < length (boxAt bs q) → 0 < occurrences (getD (boxAt bs q) i 0) bs
+  occurrences-has i l =
+      let e = getD (boxAt bs q) i 0 in
+      omega (arith, times-has (boxAt bs q) i l, total-has (timesIn e) bs q (mail-within bs q (omega arith)))
+
   module _ (l : q < length bs) (v : ℕ) where
     pub occurrences-back : (e : ℕ) → occurrences e (pushBack bs q v) ≡ occurrences e bs + one (eqb v e)
     occurrences-back e = omega (arith, total-changed (timesIn e) (behind v) bs q l, times-behind e v (boxAt bs q))

@@ -23,13 +23,13 @@ module _ (k : Kernel) (vs : List Val) (h : Is (row the-type) k vs) where
     heads = rw rings (sym (length-map (k .heads) (λ v. v)) ∙ h .1 .1 .1 .1 .1 .1 .1 .0 .1 .0 .1);
   }
 
-  pub side-rings : length (k .side_counts) ≡ sideQueues
-  side-rings = sym (length-map (k .side_counts) (λ v. v)) ∙ h .1 .1 .1 .1 .1 .1 .1 .1 .1 .1 .1 .0 .1 .0 .1
+  pub side-rings : length (k .«side_counts») ≡ sideQueues
+  side-rings = sym (length-map (k .«side_counts») (λ v. v)) ∙ h .1 .1 .1 .1 .1 .1 .1 .1 .1 .1 .1 .0 .1 .0 .1
 
-  pub sides-of : Mail (k .side_places) (k .side_heads) (k .side_counts)
+  pub sides-of : Mail (k .«side_places») (k .«side_heads») (k .«side_counts»)
   sides-of = record {
-    places = rw side-rings (sym (length-map (k .side_places) (λ v. v)) ∙ h .1 .1 .1 .1 .1 .1 .1 .1 .1 .0 .1 .0 .1);
-    heads = rw side-rings (sym (length-map (k .side_heads) (λ v. v)) ∙ h .1 .1 .1 .1 .1 .1 .1 .1 .1 .1 .0 .1 .0 .1);
+    places = rw side-rings (sym (length-map (k .«side_places») (λ v. v)) ∙ h .1 .1 .1 .1 .1 .1 .1 .1 .1 .0 .1 .0 .1);
+    heads = rw side-rings (sym (length-map (k .«side_heads») (λ v. v)) ∙ h .1 .1 .1 .1 .1 .1 .1 .1 .1 .1 .0 .1 .0 .1);
   }
 
   -- every object has a mailbox

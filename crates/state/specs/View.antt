@@ -15,7 +15,7 @@ stateOf k = record {
   cells = cells (k .pool);
   events = record { signals = k .signals; sizes = k .sizes; holds = k .holds };
   boxes = boxes (k .places) (k .heads) (k .counts);
-  sides = boxes (k .side_places) (k .side_heads) (k .side_counts);
+  sides = boxes (k .«side_places») (k .«side_heads») (k .«side_counts»);
   objects = record { depths = k .depths; rests = k .rests; seats = k .seats };
   wants = k .wants;
   loaded = k .loaded;

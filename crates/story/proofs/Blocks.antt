@@ -1,5 +1,5 @@
 -- What each command may make of each block.
-use mathlib.Core.List.{List}
+use mathlib.Core.List.{List, [], _∷_}
 use mathlib.Core.Logic.{_⊎_, inl, inr}
 use mathlib.Core.Path.{_≡_, refl, sym, _∙_}
 use Prim.Native.Nat.{ℕ, zero, suc, _+_}
@@ -7,6 +7,7 @@ use lib.Dec.{eqb, ltb}
 use lib.ListN.{getD}
 use Rattle.ground.specs.Bools.{cond-pick}
 use Rattle.chart.specs.Chart.{classOf}
+use Rattle.mail.specs.Entry.{handOf}
 use Rattle.mail.specs.declared.Hand.{Hand}
 use Rattle.mail.specs.declared.Hand.the-variants.{Nothing, Block, Timer}
 use Rattle.pool.specs.Cell.{Cell, handedOut, more, fewer, dropped}
@@ -15,12 +16,13 @@ use Rattle.pool.specs.Row.{at, changed, found, poolFor}
 use Rattle.pool.specs.declared.Found.{Found}
 use Rattle.pool.specs.declared.Found.the-variants.{At, Nothing}
 use Rattle.machine.proofs.Tests.{unless-pick, fault-pick}
+use Rattle.machine.specs.Aside.{setAside, defer, recalled, recallDone, recall, letGoEach, flushed, flush}
 use Rattle.machine.specs.Charts.{load, start, startedAt}
 use Rattle.machine.specs.Clocks.{arm, armedWith, disarm, withCounter, Ticked, ticked, fire, tickTimer, tickFrom, tickDone, tick}
 use Rattle.machine.specs.Events.{newEvent, newIn, new, posted, post, postedFront, postFront, receivers, published, publishDone, publish, wanting, subscribe, unsubscribe, held, hold, released, release, dropEvent, read}
 use Rattle.machine.specs.Machine.{arg, answerTo}
 use Rattle.machine.specs.Numbers.{objects, timers}
-use Rattle.machine.specs.Reply.{Areas, Answer, lowest, replyOf, bytes, unless}
+use Rattle.machine.specs.Reply.{Areas, Answer, answer, done, lowest, replyOf, bytes, unless}
 use Rattle.machine.specs.State.{State, signalIn, subscribed, counterOf, room}
 use Rattle.machine.specs.Steps.{stepTests, stepped, next, letGoHand, ended, end, Drained, logged, drainFrom, drainDone, drain}
 use Rattle.story.proofs.Cells.{Moves, Grown, Fallen, grown-same, fallen-same, grown-more, fallen-fewer, moves-grown, moves-fallen, moves-same, moves-dropped, moves-handed, changed-each}
@@ -45,6 +47,11 @@ module _ (c : Cell) (k : ℕ) where
   let-go-fallen Nothing s f = f
   let-go-fallen (Block b) s f = changed-each (Fallen c) fewer (s .cells) b k f (λ e. fallen-fewer c (at (s .cells) k) f)
   let-go-fallen (Timer t g) s f = f
+
+  gone-fallen : (l : List ℕ) (s : State) → Fallen c (at (s .cells) k) → Fallen c (at (letGoEach l s .cells) k)
+  unfolding letGoEach
+  gone-fallen [] s f = f
+  gone-fallen (e ∷ l) s f = gone-fallen l (letGoHand (handOf e) s) (let-go-fallen (handOf e) s f)
 
   ended-fallen : (s : State) → Fallen c (at (s .cells) k) → Fallen c (at (ended s .cells) k)
   unfolding ended
@@ -125,9 +132,20 @@ module _ (s : State) (r d : List ℕ) (z : Areas) where
     block = λ k. moves-grown _ _ _ _ (published-grown (signalIn s (arg r 1)) (arg r 1) (at (s .cells) k) k objects s (grown-same _));
   }
 
+  defer-moved : (h : Hand) (q v : ℕ) → Moved s r (answer (setAside h q s) (done v 0) z)
+  unfolding setAside
+  defer-moved Nothing q v = same _ refl
+  defer-moved (Block b) q v = gains _ b refl
+  defer-moved (Timer t g) q v = same _ refl
+
+  recall-moved : (n q p : ℕ) → Moved s r (recallDone n q p s z)
+  unfolding recallDone recalled
+  recall-moved zero q p = same _ refl
+  recall-moved (suc n) q p = same _ refl
+
   each : ByRecord (Moved s r) r d s z
   unfolding load start startedAt arm armedWith disarm withCounter tick tickDone new post posted postFront postedFront publish subscribe unsubscribe wanting hold held
-      release released dropEvent read next stepped end drain drainDone replyOf bytes
+      release released dropEvent read next stepped end drain drainDone defer recall flush flushed replyOf bytes
   each = record {
     load = λ e. unless-moved _ _ (fault-pick s z _ (Moved s r) (classOf d) (λ j e. same _ refl) (λ e. same _ refl));
     start = λ e. unless-moved _ _ (same _ refl);
@@ -147,6 +165,9 @@ module _ (s : State) (r d : List ℕ) (z : Areas) where
     tick = λ e. unless-moved _ _ (same _ (ticked-cells timers 0 (ticked s 0 0)));
     read = λ e. unless-moved _ _ (same _ refl);
     drain = λ e. unless-moved _ _ (falls _ (λ k. drained-fallen (at (s .cells) k) k _ 0 s _ _ (fallen-same _)));
+    defer = λ e. unless-moved _ _ (defer-moved _ _ _);
+    recall = λ e. unless-moved _ _ (recall-moved _ _ _);
+    flush = λ e. unless-moved _ _ (falls _ (λ k. gone-fallen (at (s .cells) k) k _ s (fallen-same _)));
   }
 
   pub moved : Moved s r (answerTo s r d z)

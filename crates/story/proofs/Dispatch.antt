@@ -9,6 +9,7 @@ use borrow.Author.Tests.{eqb-true, eqb-false, lt-ltb}
 use lib.Dec.{eqb, ltb}
 use lib.ListN.{length}
 use Rattle.ground.specs.Bools.{or-right}
+use Rattle.machine.specs.Aside
 use Rattle.machine.specs.Charts
 use Rattle.machine.specs.Clocks
 use Rattle.machine.specs.Events
@@ -17,6 +18,7 @@ use Rattle.machine.specs.Numbers.{recordBytes, outside}
 use Rattle.machine.specs.Reply.{FORM, no, Areas, Answer, answer}
 use Rattle.machine.specs.State.{State}
 use Rattle.machine.specs.Steps
+use Rattle.story.specs.Table.{FLUSH}
 
 module _ (P : Answer → Type 0) where
   choose-pick : (t : Bool) (a b : Answer) → (t ≡ true → P a) → (t ≡ false → P b) → P (choose t a b)
@@ -47,6 +49,9 @@ pub record ByRecord (P : Answer → Type 0) (r d : List ℕ) (s : State) (z : Ar
   pub tick : arg r 0 ≡ 16 → P (Clocks.tick (spoilt 0 r) s z)
   pub read : arg r 0 ≡ 17 → P (Events.read (spoilt 2 r) (arg r 1) (arg r 2) s z)
   pub drain : arg r 0 ≡ 18 → P (Steps.drain (spoilt 1 r) (arg r 1) s z)
+  pub defer : arg r 0 ≡ 19 → P (Aside.defer (spoilt 1 r) (arg r 1) s z)
+  pub recall : arg r 0 ≡ 20 → P (Aside.recall (spoilt 2 r) (arg r 1) (arg r 2) s z)
+  pub flush : arg r 0 ≡ 21 → P (Aside.flush (spoilt 1 r) (arg r 1) s z)
 
 -- n is none of 1 to k.
 Beyond : ℕ → ℕ → Type 0
@@ -62,13 +67,13 @@ unfolding Beyond
 beyond-more k n (inl z) e = inl z
 beyond-more k n (inr l) e = inr (let ne = eqb-false n (suc k) e in omega arith)
 
-beyond-outside : (n : ℕ) → Beyond 18 n → outside 1 18 n ≡ true
+beyond-outside : (n : ℕ) → Beyond FLUSH n → outside 1 FLUSH n ≡ true
 unfolding Beyond outside
 beyond-outside n (inl z) = rw z refl
-beyond-outside n (inr l) = or-right (ltb n 1) (ltb 18 n) (lt-ltb 18 n l)
+beyond-outside n (inr l) = or-right (ltb n 1) (ltb FLUSH n) (lt-ltb FLUSH n l)
 
 module _ (P : Answer → Type 0) (r d : List ℕ) (s : State) (z : Areas) (all : ByRecord P r d s z) where
-  pub by-number : (outside 1 18 (arg r 0) ≡ true → P (answer s (no FORM) z)) → P (command (arg r 0) r d s z)
+  pub by-number : (outside 1 FLUSH (arg r 0) ≡ true → P (answer s (no FORM) z)) → P (command (arg r 0) r d s z)
   unfolding command
   by-number form =
       one-of P (arg r 0) 1 _ _ (all .load) (λ e1.
@@ -89,11 +94,15 @@ module _ (P : Answer → Type 0) (r d : List ℕ) (s : State) (z : Areas) (all :
       (one-of P (arg r 0) 16 _ _ (all .tick) (λ e16.
       (one-of P (arg r 0) 17 _ _ (all .read) (λ e17.
       (one-of P (arg r 0) 18 _ _ (all .drain) (λ e18.
+      (one-of P (arg r 0) 19 _ _ (all .defer) (λ e19.
+      (one-of P (arg r 0) 20 _ _ (all .recall) (λ e20.
+      (one-of P (arg r 0) 21 _ _ (all .flush) (λ e21.
       form (beyond-outside _ (
+      beyond-more 20 _ (beyond-more 19 _ (beyond-more 18 _ (
       beyond-more 17 _ (beyond-more 16 _ (beyond-more 15 _ (beyond-more 14 _ (beyond-more 13 _ (beyond-more 12 _ (
       beyond-more 11 _ (beyond-more 10 _ (beyond-more 9 _ (beyond-more 8 _ (beyond-more 7 _ (beyond-more 6 _ (
       beyond-more 5 _ (beyond-more 4 _ (beyond-more 3 _ (beyond-more 2 _ (beyond-more 1 _ (beyond-more 0 _ (
-      beyond-none _) e1) e2) e3) e4) e5) e6) e7) e8) e9) e10) e11) e12) e13) e14) e15) e16) e17) e18)))))))))))))))))))))))))))))))))))))
+      beyond-none _) e1) e2) e3) e4) e5) e6) e7) e8) e9) e10) e11) e12) e13) e14) e15) e16) e17) e18) e19) e20) e21)))))))))))))))))))))))))))))))))))))))))))
 
   pub by-record : P (answer s (no FORM) z) → P (answerTo s r d z)
   unfolding answerTo

@@ -1,6 +1,6 @@
 -- A run from a fresh start, by computation: a chart is loaded and an object started, a block is posted, held, read, released and freed, a
--- handle is refused as stale, the block is handed out again and drained, a new event is dropped; and then somebody writes to the tables, so that
--- DRAIN stops and NEXT is refused. Its calls meet the theorems' hypotheses.
+-- handle is refused as stale, the block is handed out again and drained, a new event is dropped, an event is set aside twice, recalled and
+-- flushed; and then somebody writes to the tables, so that DRAIN stops and NEXT is refused. Its calls meet the theorems' hypotheses.
 use mathlib.Core.Bool.{Bool, true, false, cond, not, _&&_}
 use mathlib.Core.List.{List, [], _∷_}
 use mathlib.Core.Logic.{inl}
@@ -23,6 +23,7 @@ use Rattle.pool.specs.Cell
 use Rattle.pool.specs.Cell.{Cell, free, live, isFree}
 use Rattle.pool.specs.Row
 use Rattle.pool.specs.Row.{at}
+use Rattle.machine.specs.Aside
 use Rattle.machine.specs.Charts
 use Rattle.machine.specs.Charts.{slotUsed}
 use Rattle.machine.specs.Events
@@ -38,8 +39,9 @@ use Rattle.machine.specs.State
 use Rattle.machine.specs.State.{State, freshState, restOf, started, isOpen}
 use Rattle.machine.specs.Steps
 use Rattle.story.specs.Calls.{areBytes, Call, Story, fresh, then, kernel, answerIn, Area, payloadArea, tableArea, left, OnlyKernel}
-use Rattle.story.specs.Table.{LOAD, START, NEW, NEXT, READ, DRAIN}
-use Rattle.story.specs.Terms.{reply, number, value₁, value₂, Did, cell, refer, LastGoes, NewGoes}
+use Rattle.story.specs.Table.{LOAD, START, NEW, NEXT, READ, DRAIN, DEFER, RECALL, FLUSH}
+use Rattle.story.specs.Terms.{reply, number, value₁, value₂, Did, cell, refer, LastGoes, NewGoes, side}
+use Rattle.story.proofs.Aside.{deferred}
 
 -- ## Asking: each call is lent what the calls before left in the areas, zeros at first; or, of the tables, what somebody wrote: zeros
 record Ask : Type 0 where
@@ -111,6 +113,13 @@ asks =
     ∷ ask (11 ∷ 0 ∷ 2 ∷ []) [] refl
     ∷ ask (3 ∷ 9 ∷ 0 ∷ []) [] refl
     ∷ ask (4 ∷ 0 ∷ 3 ∷ 9 ∷ 0 ∷ []) [] refl
+    ∷ ask (12 ∷ []) [] refl
+    ∷ ask (19 ∷ 0 ∷ []) [] refl
+    ∷ ask (19 ∷ 0 ∷ []) [] refl
+    ∷ ask (20 ∷ 0 ∷ 9 ∷ []) [] refl
+    ∷ ask (21 ∷ 0 ∷ []) [] refl
+    ∷ ask (20 ∷ 0 ∷ 9 ∷ []) [] refl
+    ∷ ask (13 ∷ []) [] refl
     ∷ askElse (18 ∷ 5 ∷ []) refl
     ∷ askElse (12 ∷ []) refl
     ∷ []
@@ -137,6 +146,13 @@ expected =
     ∷ sees [] (free 3) 0 4
     ∷ sees (0 ∷ 0 ∷ 0 ∷ 0 ∷ 0 ∷ 3 ∷ []) (live 3 0) 0 4
     ∷ sees (0 ∷ 0 ∷ 0 ∷ 0 ∷ 1 ∷ []) (live 3 1) 1 4
+    ∷ sees (0 ∷ 9 ∷ 41 ∷ 1 ∷ 0 ∷ 3 ∷ 49 ∷ []) (live 3 1) 1 4
+    ∷ sees (0 ∷ 0 ∷ 0 ∷ 0 ∷ 1 ∷ []) (live 3 2) 2 4
+    ∷ sees (0 ∷ 0 ∷ 0 ∷ 0 ∷ 2 ∷ []) (live 3 3) 3 4
+    ∷ sees (0 ∷ 0 ∷ 0 ∷ 0 ∷ 1 ∷ []) (live 3 3) 3 4
+    ∷ sees (0 ∷ 0 ∷ 0 ∷ 0 ∷ 1 ∷ []) (live 3 2) 2 4
+    ∷ sees [] (live 3 2) 2 4
+    ∷ sees [] (live 3 1) 1 4
     ∷ sees (0 ∷ 0 ∷ 0 ∷ 0 ∷ 0 ∷ 2 ∷ []) (live 3 1) 1 4
     ∷ sees (15 ∷ []) (live 3 1) 1 4
     ∷ []
@@ -145,7 +161,7 @@ computed : run freshState (zeros payloadArea) (zeros tableArea) asks ≡ expecte
 unfolding run asks expected padded blank firstFrom everyFrom shift
     Chart.byte Chart.parent Chart.states Chart.rowFor Chart.path Chart.has Chart.lengthOk Chart.among Chart.isSignal Chart.formOk Chart.formsOk Chart.parentOk Chart.stateOk Chart.treeOk Chart.rowOk Chart.rowsOk Chart.classOf
     Step.listed Step.upTo Step.leave Step.enter Step.firstOf Step.limit Step.settle Step.moved Step.step Step.start Flat.rowOf Flat.rowNo Flat.rowsFrom Flat.slotBytes Flat.place Flat.sound
-    Box.changed Box.behind Box.ahead Box.rest Box.highestOf Box.total Box.timesIn Entry.entryOf Entry.handOf
+    Box.changed Box.behind Box.ahead Box.rest Box.bare Box.highestOf Box.total Box.timesIn Entry.entryOf Entry.handOf
     Cell.nextGeneration Cell.isFree Cell.isNew Cell.atLast Cell.generationOf Cell.staleFor Cell.handedOut Cell.more Cell.fewer Cell.dropped
     Row.generationAt Row.staleAt Row.poolFor Row.lowestFree Row.foundIn
     Inv.inHand Inv.references Numbers.outside Numbers.capacity Numbers.placeOf State.isOpen
@@ -155,6 +171,7 @@ unfolding run asks expected padded blank firstFrom everyFrom shift
     Events.noneFound Events.newTests Events.newEvent Events.newIn Events.new Events.postTests Events.posted Events.post Events.holdTests Events.held Events.hold
     Events.releaseTests Events.released Events.release Events.dropTests Events.dropEvent Events.readTests Events.payloadOf Events.read
     Steps.coming Steps.signalOf Steps.handle₁ Steps.handle₂ Steps.nextRow Steps.stepTests Steps.nextTests Steps.stepped Steps.nextSays Steps.next Steps.letGoHand Steps.frees Steps.ended Steps.endTests Steps.end Steps.logged Steps.drainFrom Steps.drainEnd Steps.drainTests Steps.drainDone Steps.drain
+    Aside.isTimer Aside.deferTests Aside.setAside Aside.defer Aside.recallTests Aside.recalled Aside.recallDone Aside.recall Aside.letGoEach Aside.flushed Aside.flushTests Aside.flush
 computed = refl
 
 -- ## The story of the run
@@ -215,16 +232,19 @@ blank-ask = ask [] [] refl
 abbrev callOf : ℕ → Call
 callOf i = asked (storyOf i) (getD asks i blank-ask)
 
+abbrev calls : ℕ
+calls = 26
+
 views-are : views fresh asks ≡ expected
 unfolding kernel left
 views-are = views-run fresh asks ∙ computed
 
-seen-at : (i : ℕ) → i < 19 → seenOf (answerIn (storyOf i) (callOf i)) ≡ getD expected i nothing
+seen-at : (i : ℕ) → i < calls → seenOf (answerIn (storyOf i) (callOf i)) ≡ getD expected i nothing
 unfolding asks
 seen-at i l = sym (view-at fresh asks i blank-ask nothing l) ∙ ap (λ (v : List Seen). getD v i nothing) views-are
 
 -- the number and the values of a call, and block 0 and what refers to it after the call
-module _ (i : ℕ) (l : i < 19) where
+module _ (i : ℕ) (l : i < calls) where
   byte-at : (k : ℕ) → getD (reply (storyOf i) (callOf i)) k 0 ≡ getD (getD expected i nothing .reply) k 0
   byte-at k = ap (λ (v : Seen). getD (v .reply) k 0) (seen-at i l)
 
@@ -261,6 +281,14 @@ loadable : Loadable (storyOf 0) (callOf 0)
 unfolding asks padded told kernel left slotUsed isOpen
 loadable = record { form = refl; accepted = shift-stated .good; whole = length-replicate {A = ℕ} tableBytes 0; closed = refl; unused = refl }
 
+-- what is set aside after the first DEFER: as many as it answers
+set-aside : length (side (storyOf 19) 0) ≡ 1
+unfolding asks expected padded
+set-aside =
+    ap (λ h. length (side h 0)) (after 18 (omega arith))
+    ∙ sym (deferred (storyOf 18) (callOf 18) (refl, byte-at 18 (omega arith) 0) .entries)
+    ∙ byte-at 18 (omega arith) 4
+
 record Meets : Type 0 where
   -- of the commands that the theorems speak of, each done
   loads : Did LOAD (storyOf 0) (callOf 0)
@@ -286,13 +314,19 @@ record Meets : Type 0 where
   -- a new block is dropped
   new : isLive (cell (storyOf 14) 0) ≡ true
   gone : NewGoes (storyOf 14) (callOf 14) 0
-  -- only the kernel writes to the payloads, and to the tables up to call 17
+  -- an event is set aside, recalled, let go; then there is none to recall
+  defers : Did DEFER (storyOf 18) (callOf 18)
+  aside : length (side (storyOf 19) 0) ≡ 1
+  recalls : Did RECALL (storyOf 20) (callOf 20) × (value₁ (storyOf 20) (callOf 20) ≡ 1)
+  flushes : Did FLUSH (storyOf 21) (callOf 21) × (value₁ (storyOf 21) (callOf 21) ≡ 1)
+  finds : Did RECALL (storyOf 22) (callOf 22) × (value₁ (storyOf 22) (callOf 22) ≡ 0)
+  -- only the kernel writes to the payloads, and to the tables up to call 24
   payloads : (i : ℕ) → OnlyKernel payloadArea (zeros payloadArea) (storyOf i)
   tables : (i : ℕ) → honestly asks i ≡ true → OnlyKernel tableArea (zeros tableArea) (storyOf i)
-  honest : honestly asks 17 ≡ true
+  honest : honestly asks 24 ≡ true
   -- then others do: DRAIN stops below its budget, and NEXT is refused
-  stops : Did DRAIN (storyOf 17) (callOf 17) × (value₂ (storyOf 17) (callOf 17) ≡ 2)
-  unsound : number (storyOf 18) (callOf 18) ≡ TABLE
+  stops : Did DRAIN (storyOf 24) (callOf 24) × (value₂ (storyOf 24) (callOf 24) ≡ 2)
+  unsound : number (storyOf 25) (callOf 25) ≡ TABLE
 
 meets : Meets
 unfolding asks expected padded isLive isFree OnlyKernel
@@ -314,9 +348,14 @@ meets = record {
   again = (byte-at 10 (omega arith) 4, byte-at 10 (omega arith) 5);
   new = ap isLive (cell-after 13 (omega arith));
   gone = record { new = refer-after 13 (omega arith); this = refl; how = inl (refl, byte-at 14 (omega arith) 0) };
+  defers = (refl, byte-at 18 (omega arith) 0);
+  aside = set-aside;
+  recalls = ((refl, byte-at 20 (omega arith) 0), byte-at 20 (omega arith) 4);
+  flushes = ((refl, byte-at 21 (omega arith) 0), byte-at 21 (omega arith) 4);
+  finds = ((refl, byte-at 22 (omega arith) 0), byte-at 22 (omega arith) 4);
   payloads = λ i. told-payloads fresh (take i asks) tt;
   tables = λ i e. told-tables fresh asks i e tt;
   honest = refl;
-  stops = ((refl, byte-at 17 (omega arith) 0), byte-at 17 (omega arith) 5);
-  unsound = byte-at 18 (omega arith) 0;
+  stops = ((refl, byte-at 24 (omega arith) 0), byte-at 24 (omega arith) 5);
+  unsound = byte-at 25 (omega arith) 0;
 }

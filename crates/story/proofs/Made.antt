@@ -2,7 +2,7 @@
 use mathlib.Core.Bool.{Bool, true, false}
 use mathlib.Core.List.{List}
 use mathlib.Core.Path.{_≡_, refl, sym, ap, _∙_}
-use Prim.Native.Nat.{ℕ, zero, suc, _*_}
+use Prim.Native.Nat.{ℕ, zero, suc, _+_, _*_}
 use native.Mathlib.Omega.{arith}
 use lib.Dec.{eqb}
 use lib.ListN.{length, getD, set}
@@ -10,12 +10,13 @@ use Rattle.chart.specs.Chart.{classOf, states}
 use Rattle.chart.specs.Flat.{slotBytes}
 use Rattle.chart.specs.Numbers.{slotSize}
 use Rattle.machine.proofs.Tests.{unless-none}
+use Rattle.machine.specs.Aside.{deferTests, setAside, defer, recallTests, recallDone, recall, flushTests, flushed, flush}
 use Rattle.machine.specs.Charts.{loadTests, load, startRow, startTests, startedAt, start}
 use Rattle.machine.specs.Events.{newTests, newIn, new, receivers, publishTests, publishDone, publish, dropTests, dropEvent, freedNew, readTests, payloadOf, read}
 use Rattle.machine.specs.Machine.{arg, payload, spoilt, spoiltNew, choose, command, answerTo}
 use Rattle.machine.specs.Numbers.{objects, recordBytes}
 use Rattle.machine.specs.Reply.{over, withTables, done, ran, shown, Areas, Answer, answer, lowest, unless, unlessFault, replyOf, bytes}
-use Rattle.machine.specs.State.{State, signalIn, withLoaded}
+use Rattle.machine.specs.State.{State, signalIn, sideOf, withLoaded}
 use Rattle.machine.specs.Steps.{nextTests, stepped, nextSays, next, drainFrom, drainTests, drainDone, drain}
 use Rattle.pool.specs.Row.{found}
 
@@ -111,3 +112,17 @@ module _ (s : State) (r d : List ℕ) (z : Areas) (e : numberOf (answerTo s r d 
       (drainDone (arg r 1) (drainFrom (arg r 1) 0 s (z .tables) (z .log)) z)
   unfolding command choose drain
   drain-made q = by-command 18 _ _ q refl
+
+  pub defer-made : arg r 0 ≡ 19 → Made (answerTo s r d z) (deferTests (spoilt 1 r) (arg r 1) s)
+      (answer (setAside (s .hand) (arg r 1) s) (done (length (sideOf s (arg r 1)) + 1) 0) z)
+  unfolding command choose defer
+  defer-made q = by-command 19 _ _ q refl
+
+  pub recall-made : arg r 0 ≡ 20 → Made (answerTo s r d z) (recallTests (spoilt 2 r) (arg r 1) (arg r 2) s)
+      (recallDone (length (sideOf s (arg r 1))) (arg r 1) (arg r 2) s z)
+  unfolding command choose recall
+  recall-made q = by-command 20 _ _ q refl
+
+  pub flush-made : arg r 0 ≡ 21 → Made (answerTo s r d z) (flushTests (spoilt 1 r) (arg r 1)) (answer (flushed s (arg r 1)) (done (length (sideOf s (arg r 1))) 0) z)
+  unfolding command choose flush
+  flush-made q = by-command 21 _ _ q refl

@@ -20,6 +20,8 @@ use Rattle.pool.specs.Row.{at, foundIn, lowestFree}
 use Rattle.pool.specs.declared.Found.{Found}
 use Rattle.pool.specs.declared.Found.the-variants.{At, Nothing}
 use Rattle.pool.specs.declared.Span.{Span}
+use Rattle.machine.specs.Aside
+use Rattle.machine.specs.Aside.{recallDone}
 use Rattle.machine.specs.Charts
 use Rattle.machine.specs.Charts.{slotUsed}
 use Rattle.machine.specs.Clocks
@@ -27,12 +29,12 @@ use Rattle.machine.specs.Events
 use Rattle.machine.specs.Events.{noneFound, newIn, fullReceiver, publishDone}
 use Rattle.machine.specs.Inv.{Inv}
 use Rattle.machine.specs.Machine.{arg, spoilt, spoiltNew, choose, answerTo}
-use Rattle.machine.specs.Numbers.{objects, recordBytes, mostHolds, outside, noSlot}
+use Rattle.machine.specs.Numbers.{objects, recordBytes, mostHolds, mostAside, outside, noSlot}
 use Rattle.machine.specs.Reply.{FORM, no, Areas, Answer, answer, lowest, unless, unlessFault, replyOf, bytes}
-use Rattle.machine.specs.State.{State, slotOf, started, room, subscribed, holdsOn, isOpen}
+use Rattle.machine.specs.State.{State, slotOf, sideOf, started, room, subscribed, holdsOn, isOpen}
 use Rattle.machine.specs.Steps
 use Rattle.story.specs.Table
-use Rattle.story.specs.Table.{tableOf, someObject, dry}
+use Rattle.story.specs.Table.{FLUSH, tableOf, someObject, dry}
 use Rattle.story.proofs.Dispatch.{ByRecord, by-number}
 
 -- ## Tests by a command's way and by the table's
@@ -151,6 +153,11 @@ module _ (s : State) (z : Areas) where
   new-done (At b) g n payload = refl
   new-done Nothing g n payload = refl
 
+  recall-done : (n q p : ℕ) → numberOf (recallDone n q p s z) ≡ 0
+  unfolding recallDone replyOf bytes
+  recall-done zero q p = refl
+  recall-done (suc n) q p = refl
+
   publish-done : (n b : ℕ) → numberOf (publishDone n b s z) ≡ 0
   unfolding publishDone replyOf bytes
   publish-done zero b = refl
@@ -161,7 +168,7 @@ module _ (s : State) (r d : List ℕ) (z : Areas) (long : eqb (length r) recordB
   abbrev Tabled : Answer → Type 0
   Tabled a = numberOf a ≡ lowest (tableOf (arg r 0) s r d z)
 
-  unknown-number : outside 1 18 (arg r 0) ≡ true → Tabled (answer s (no FORM) z)
+  unknown-number : outside 1 FLUSH (arg r 0) ≡ true → Tabled (answer s (no FORM) z)
   unfolding lowest tableOf replyOf bytes
   unknown-number e = rw (long, e) refl
 
@@ -170,8 +177,9 @@ module _ (s : State) (r d : List ℕ) (z : Areas) (long : eqb (length r) recordB
       Events.new Events.newTests Events.post Events.postTests Events.postFront Events.postFrontTests Events.publish Events.publishTests
       Events.subscribe Events.unsubscribe Events.subscribeTests Events.hold Events.holdTests Events.release Events.releaseTests Events.dropEvent Events.dropTests
       Events.read Events.readTests Steps.next Steps.nextTests Steps.stepTests Steps.nextSays Steps.end Steps.endTests Steps.drain Steps.drainTests Steps.drainDone
+      Aside.defer Aside.deferTests Aside.recall Aside.recallTests Aside.flush Aside.flushTests
       replyOf bytes spoilt lowest tableOf dry
-      Table.arguments Table.line Table.someOutside Table.isOutside Table.objectIn Table.isObject Table.oneOf Table.unusedByte Table.otherLength Table.slotInUse Table.fullSubscriber outside
+      Table.arguments Table.line Table.someOutside Table.isOutside Table.objectIn Table.isObject Table.oneOf Table.unusedByte Table.otherLength Table.slotInUse Table.fullSubscriber Table.fullSide Table.noPlace outside
   each = record {
     load = λ e. rw e (load-number s z (spoilt 1 r) (Charts.tablesBad (z .tables)) (noSlot (arg r 1)) (isOpen (s .hand)) (slotUsed s (arg r 1) objects) _ (cond (not (eqb (classOf d) 0)) 14 0) (fault-number s z (classOf d) _ refl) ∙ simp (long, or-false, cond-or, used-is));
     start = λ e. rw e (unless-number s z _ _ refl ∙ simp (long, or-false, cond-or));
@@ -191,6 +199,9 @@ module _ (s : State) (r d : List ℕ) (z : Areas) (long : eqb (length r) recordB
     tick = λ e. rw e (unless-number s z _ _ refl ∙ simp (long, cond-or));
     read = λ e. rw e (unless-number s z _ _ refl ∙ simp (long, or-false, cond-or));
     drain = λ e. rw e (unless-number s z _ _ refl ∙ simp (long, cond-or));
+    defer = λ e. rw e (unless-number s z _ _ refl ∙ rw (at-most (length (sideOf s (arg r 1))) mostAside (i .aside .room (arg r 1))) (simp (long, or-false, cond-or)));
+    recall = λ e. rw e (unless-number s z _ _ (recall-done s z _ _ _) ∙ simp (long, or-false, cond-or));
+    flush = λ e. rw e (unless-number s z _ _ refl ∙ simp (long, or-false, cond-or));
   }
 
   whole-number : numberOf (answerTo s r d z) ≡ lowest (tableOf (arg r 0) s r d z)

@@ -49,7 +49,7 @@ next-whole h c did =
     let m = next-made (kernel h) (c .command) (c .chart) (c .areas) (did .1) (did .0) in
     eqb-true _ tableBytes (not-false _ (none-holds (nextTests _ (kernel h) (c .areas .tables)) refl (m .none) .1 .0))
 
-empty : (l : List ℕ) → length l ≡ 0 → l ≡ []
+pub empty : (l : List ℕ) → length l ≡ 0 → l ≡ []
 empty [] e = refl
 empty (x ∷ l) e = absurd (omega arith)
 

@@ -1,6 +1,7 @@
 -- The theorems, each of the statement of its name in specs/Demands.antt. Over each: what would make it empty, and why it is not. `Meets` is
 -- the run of Examples.antt, whose fields say which of its calls meets a hypothesis.
 use Rattle.story.specs.Demands
+use Rattle.story.proofs.Aside
 use Rattle.story.proofs.Counting
 use Rattle.story.proofs.Nested
 use Rattle.story.proofs.Pairs
@@ -62,6 +63,27 @@ taken = Taking.taken
 -- No DRAIN that is done, none that takes a step, none that stops below its budget: `Meets`, drains, step and stops.
 pub drained : Demands.Drained
 drained = Pairs.drained
+
+-- ## Document 02, request 3
+-- No DEFER that is done: `Meets`, defers.
+pub deferred : Demands.Deferred
+deferred = Aside.deferred
+
+-- No RECALL that is done, or only one side of the sum: `Meets`, recalls and finds.
+pub recalled : Demands.Recalled
+recalled = Aside.recalled
+
+-- No FLUSH that is done, or none that has an entry to let go: `Meets`, flushes.
+pub flushed : Demands.Flushed
+flushed = Aside.flushed
+
+-- No side queue that changes: `Meets`, defers, since its side queue is then longer.
+pub onlyAside : Demands.OnlyAside
+onlyAside = Aside.onlyAside
+
+-- Nothing that is set aside: `Meets`, aside.
+pub keptAside : Demands.KeptAside
+keptAside = Aside.keptAside
 
 -- ## Demand 3
 -- Stories in which only the kernel writes to the tables, with no slot that is loaded: `Meets`, tables, honest and loads.

@@ -5,7 +5,7 @@ use mathlib.Core.List.{List, _∷_}
 use mathlib.Core.Logic.{_↔_, _⊎_}
 use mathlib.Core.Path.{_≡_}
 use Prim.Native.Nat.{ℕ, _*_, _≤_, _<_}
-use lib.ListN.{length, take, drop, replicate}
+use lib.ListN.{length, getD, take, drop, replicate}
 use Rattle.ground.specs.Bytes.{padded}
 use Rattle.chart.specs.Chart.{classOf, leaf, states}
 use Rattle.chart.specs.Numbers.{slotSize}
@@ -20,9 +20,10 @@ use Rattle.machine.specs.Numbers.{objects, blocks, slots, replyBytes, tableByte
 use Rattle.machine.specs.Reply.{DONE, TABLE}
 use Rattle.machine.specs.State.{sizeIn, restOf, slotOf, started, isLoaded, isOpen}
 use Rattle.story.specs.Calls.{Call, Story, then, kernel, answerIn, payloadArea, tableArea, left, OnlyKernel}
-use Rattle.story.specs.Table.{LOAD, START, NEW, NEXT, READ, DRAIN}
+use Rattle.story.specs.Table.{LOAD, START, NEW, NEXT, READ, DRAIN, DEFER, RECALL, FLUSH}
 use Rattle.story.specs.Terms.{argument, reply, number, object, value₁, value₂, Did, appliesTo, chartIn, givenTo, cell, refer, Counts, LastGoes, NewGoes}
 use Rattle.story.specs.Terms.{nextCall, steps, logLine, says, signalTaken, nested, Unchanged, Takes, Drains, Holds}
+use Rattle.story.specs.Terms.{side, Defers, Recalls, FindsNone, Flushes, Lives}
 
 -- ## Demand 1
 -- "Any command record, chart and lent area, in any order of calls from a fresh start, gets an answer and never a trap."
@@ -47,11 +48,12 @@ Lengths =
     (length (z .payloads) ≡ length (c .areas .payloads)) × (length (z .tables) ≡ length (c .areas .tables)) × (length (z .log) ≡ length (c .areas .log))
 
 -- ## Demand 2
--- "A block is free, new, or counted by mailbox entries, holds and the step in hand;"
+-- "A block is free, new, or counted by mailbox entries, holds and the step in hand;", and by side entries since request 3 of document 02;
 abbrev pub Counted : Type 0
 Counted = (h : Story) (b : ℕ) → b < blocks → Counts (cell h b) (refer h b)
 
--- "it goes back exactly when the last of these is gone", or while new when it is dropped or published to nobody;
+-- "it goes back exactly when the last of these is gone", or while new when it is dropped or published to nobody; document 02: "exactly when
+-- no mailbox entry, side entry, hold or step in hand is left";
 abbrev pub Freed : Type 0
 Freed =
     (h : Story) (c : Call) (b : ℕ) → b < blocks → isLive (cell h b) ≡ true →
@@ -82,6 +84,29 @@ Taken = (h : Story) (c : Call) → Did NEXT h c → Takes h c (object h c)
 -- DRAIN: "steps equal the fall in queued entries, and each log line is NEXT on the state before it"; the event of an unsound row "stays".
 abbrev pub Drained : Type 0
 Drained = (h : Story) (c : Call) → Did DRAIN h c → Drains h c (value₁ h c)
+
+-- ## Document 02, request 3, "set an event aside"
+-- "DEFER q puts the block event in hand last into side queue q"; it "leaves the step open".
+abbrev pub Deferred : Type 0
+Deferred = (h : Story) (c : Call) → Did DEFER h c → Defers h c (argument c 1)
+
+-- "RECALL q, p moves its oldest entry to the front of p's mailbox"; "an empty side queue is no refusal".
+abbrev pub Recalled : Type 0
+Recalled = (h : Story) (c : Call) → Did RECALL h c → Recalls h c (argument c 1) (argument c 2) ⊎ FindsNone h c (argument c 1)
+
+-- "FLUSH q empties it."
+abbrev pub Flushed : Type 0
+Flushed = (h : Story) (c : Call) → Did FLUSH h c → Flushes h c (argument c 1)
+
+-- Nothing else changes a side queue.
+abbrev pub OnlyAside : Type 0
+OnlyAside =
+    (h : Story) (c : Call) (q : ℕ) → (side (then h c) q ≡ side h q → ⊥) →
+    (argument c 1 ≡ q) × (Did DEFER h c ⊎ (Did RECALL h c ⊎ Did FLUSH h c))
+
+-- What is set aside is there as long as it is: each entry is a live block, and so has the bytes that its NEW gave (Payloads).
+abbrev pub KeptAside : Type 0
+KeptAside = (h : Story) (q i : ℕ) → i < length (side h q) → Lives h (getD (side h q) i 0)
 
 -- ## Demand 3, "as long as nobody but the kernel writes to the tables"
 -- Each loaded slot has the chart of its last LOAD; its table agrees with it, flat and nested, "over any sequence of signals".

@@ -1,5 +1,5 @@
--- Document 01's table of refusals, one line a refusal, and where a command has its arguments. Written from the table: no command's own
--- tests, nor their order, are named here.
+-- Document 01's table of refusals as document 02 amends it, one line a refusal, and where a command has its arguments. Written from the
+-- table: no command's own tests, nor their order, are named here.
 use mathlib.Core.Bool.{Bool, true, false, cond, not, _&&_, _||_}
 use mathlib.Core.List.{List, [], _∷_}
 use Prim.Native.Nat.{ℕ, zero, suc, _+_, _*_}
@@ -12,10 +12,11 @@ use Rattle.chart.specs.Flat.{sound}
 use Rattle.mail.specs.Box.{queued}
 use Rattle.pool.specs.Cell.{isFree, isNew}
 use Rattle.pool.specs.Row.{at, poolFor, staleAt}
+use Rattle.machine.specs.Aside.{isTimer}
 use Rattle.machine.specs.Charts.{startRow}
-use Rattle.machine.specs.Numbers.{objects, payloadBytes, tableBytes, logBytes, recordBytes, mostHolds, outside}
+use Rattle.machine.specs.Numbers.{objects, payloadBytes, tableBytes, logBytes, recordBytes, mostHolds, mostAside, outside}
 use Rattle.machine.specs.Reply.{FORM, AREA, RANGE, BUSY, NOSTEP, IDLE, STALE, ABSENT, TAKEN, FULL, DRY, HOLDS, INUSE, CHART, TABLE, Areas}
-use Rattle.machine.specs.State.{State, signalIn, holdsOn, slotOf, started, room, isLoaded, subscribed, armed, isOpen}
+use Rattle.machine.specs.State.{State, signalIn, holdsOn, sideOf, slotOf, started, room, isLoaded, subscribed, armed, isOpen}
 use Rattle.machine.specs.Steps.{nextRow}
 
 -- The commands by name.
@@ -73,6 +74,15 @@ READ = 17
 abbrev pub DRAIN : ℕ
 DRAIN = 18
 
+abbrev pub DEFER : ℕ
+DEFER = 19
+
+abbrev pub RECALL : ℕ
+RECALL = 20
+
+abbrev pub FLUSH : ℕ
+FLUSH = 21
+
 -- What an argument byte is, and the numbers that it may be: n is not one of them.
 pub data Argument : Type 0 where
   slot : Argument
@@ -83,6 +93,7 @@ pub data Argument : Type 0 where
   block : Argument
   margin : Argument
   timer : Argument
+  side : Argument
   any : Argument
 
 unfoldable pub isOutside : Argument → ℕ → Bool
@@ -94,6 +105,7 @@ isOutside size n = outside 0 64 n
 isOutside block n = outside 0 55 n
 isOutside margin n = outside 0 15 n
 isOutside timer n = outside 0 15 n
+isOutside side n = outside 0 7 n
 isOutside any n = false
 
 -- The arguments of command n, in order, from byte 1 of the record on. Any: a generation, the bytes of ticks and interval, a budget.
@@ -119,6 +131,9 @@ arguments =
     ∷ (DISARM, timer ∷ [])
     ∷ (READ, block ∷ any ∷ [])
     ∷ (DRAIN, any ∷ [])
+    ∷ (DEFER, side ∷ [])
+    ∷ (RECALL, side ∷ object ∷ [])
+    ∷ (FLUSH, side ∷ [])
     ∷ []) []
 
 -- Of the arguments l of a record r, from byte k on: one is outside its numbers; and the byte that is the object, 0 where none is.
@@ -135,6 +150,7 @@ isObject size = false
 isObject block = false
 isObject margin = false
 isObject timer = false
+isObject side = false
 isObject any = false
 
 unfoldable pub objectIn : List ℕ → ℕ → List Argument → ℕ
@@ -190,19 +206,33 @@ module _ (n : ℕ) (s : State) (r d : List ℕ) (z : Areas) where
   unfoldable pub fullSubscriber : Bool
   fullSubscriber = someObject (λ x. subscribed s x (signalIn s (byte 1)) && eqb (room s x) 0) objects
 
+  -- the side queue that a command names is full; there is an entry to recall, and no mailbox place
+  unfoldable pub fullSide : Bool
+  fullSide = eqb (length (sideOf s (byte 1))) mostAside
+
+  unfoldable pub noPlace : Bool
+  noPlace = not (eqb (length (sideOf s (byte 1))) 0) && eqb (room s p) 0
+
   -- The table: number and "exactly when".
   unfoldable pub tableOf : List (ℕ × Bool)
   tableOf =
-      (FORM, not (eqb (length r) recordBytes) || (outside LOAD DRAIN n || unusedByte))
+      (FORM, not (eqb (length r) recordBytes) || (outside LOAD FLUSH n || unusedByte))
       ∷ (AREA, otherLength)
       ∷ (RANGE, someOutside r 1 (arguments n) || is (ARM ∷ []) && eqb (byte 4 + 256 * byte 5) 0)
       ∷ (BUSY, is (LOAD ∷ START ∷ NEXT ∷ DRAIN ∷ []) && isOpen (s .hand))
-      ∷ (NOSTEP, is (END ∷ []) && not (isOpen (s .hand)))
+      ∷ (NOSTEP, is (END ∷ DEFER ∷ []) && not (isOpen (s .hand)))
       ∷ (IDLE, is (NEXT ∷ []) && eqb (queued (s .boxes)) 0)
-      ∷ (STALE, hasHandle && staleAt (s .cells) (byte 1) (byte 2))
-      ∷ (ABSENT, is (POST ∷ POSTFRONT ∷ SUBSCRIBE ∷ UNSUBSCRIBE ∷ ARM ∷ []) && not (started s p) || is (START ∷ []) && not (isLoaded s (byte 2)))
+      ∷ (STALE, hasHandle && staleAt (s .cells) (byte 1) (byte 2) || is (DEFER ∷ []) && isTimer (s .hand))
+      ∷ (ABSENT, is (POST ∷ POSTFRONT ∷ SUBSCRIBE ∷ UNSUBSCRIBE ∷ ARM ∷ RECALL ∷ []) && not (started s p) || is (START ∷ []) && not (isLoaded s (byte 2)))
       ∷ (TAKEN, is (START ∷ []) && started s p || (is (LOAD ∷ []) && slotInUse || is (ARM ∷ []) && armed s (byte 1)))
-      ∷ (FULL, is (POST ∷ []) && leb (room s p) (byte 4) || (is (POSTFRONT ∷ []) && eqb (room s p) 0 || is (PUBLISH ∷ []) && fullSubscriber))
+      ∷ (
+        FULL,
+        is (POST ∷ []) && leb (room s p) (byte 4)
+            || (is (POSTFRONT ∷ []) && eqb (room s p) 0
+            || (is (PUBLISH ∷ []) && fullSubscriber
+            || (is (DEFER ∷ []) && fullSide
+            || is (RECALL ∷ []) && noPlace))),
+      )
       ∷ (DRY, is (NEW ∷ []) && dry s (byte 2))
       ∷ (HOLDS, is (HOLD ∷ []) && eqb (holdsOn s (byte 1)) mostHolds || is (RELEASE ∷ []) && eqb (holdsOn s (byte 1)) 0)
       ∷ (INUSE, is (DROP ∷ []) && not (isNew (at (s .cells) (byte 1))))

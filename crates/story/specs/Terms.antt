@@ -1,6 +1,7 @@
--- The words of the statements: what a call is and is answered, charts and payloads as they were given, what a block counts, DRAIN's steps.
-use mathlib.Core.Bool.{Bool, cond, _&&_}
-use mathlib.Core.List.{List, [], _∷_}
+-- The words of the statements: what a call is and is answered, charts and payloads as they were given, what a block counts, DRAIN's steps,
+-- side queues.
+use mathlib.Core.Bool.{Bool, true, cond, _&&_}
+use mathlib.Core.List.{List, [], _∷_, _++_}
 use mathlib.Core.Logic.{_⊎_}
 use mathlib.Core.Path.{_≡_, refl}
 use Prim.Native.Nat.{ℕ, zero, suc, _+_, _*_, _-_, _≤_, _<_}
@@ -10,16 +11,17 @@ use Rattle.chart.specs.Chart.{classOf}
 use Rattle.chart.specs.Flat.{Agrees, slotBytes}
 use Rattle.chart.specs.Step
 use Rattle.chart.specs.Step.{step}
-use Rattle.mail.specs.Box.{front, queued, rest}
-use Rattle.mail.specs.Entry.{handOf}
+use Rattle.mail.specs.Box.{front, one, queued, rest, timesIn}
+use Rattle.mail.specs.Entry.{entryOf, handOf}
+use Rattle.mail.specs.declared.Hand.the-variants.{Block}
 use Rattle.pool.specs.Cell.{Cell, free, live, absent}
 use Rattle.pool.specs.Row.{at}
 use Rattle.machine.specs.Events.{receivers}
-use Rattle.machine.specs.Inv.{references}
+use Rattle.machine.specs.Inv.{isLive, references}
 use Rattle.machine.specs.Machine.{payload, partOf}
-use Rattle.machine.specs.Numbers.{objects, replyBytes}
+use Rattle.machine.specs.Numbers.{blocks, objects, replyBytes}
 use Rattle.machine.specs.Reply.{DONE, CHART, TABLE, bytes}
-use Rattle.machine.specs.State.{signalIn, boxOf, restOf, slotOf}
+use Rattle.machine.specs.State.{signalIn, boxOf, restOf, sideOf, slotOf}
 use Rattle.machine.specs.Steps.{signalOf, handle₁, handle₂}
 use Rattle.story.specs.Calls.{areBytes, Call, Story, fresh, then, kernel, answerIn}
 use Rattle.story.specs.Table.{LOAD, NEW, PUBLISH, DROP, NEXT, END, applies}
@@ -145,6 +147,58 @@ pub record Drains (h : Story) (c : Call) (n : ℕ) : Type 0 where
   pub within : n ≤ argument c 1
   pub ends : value₂ h c ≡ cond (eqb (queued (kernel (then h c) .boxes)) 0) 1 (cond (ltb n (argument c 1)) 2 0)
   pub stopped : 0 < queued (kernel (then h c) .boxes) → n < argument c 1 → number (then h c) (nextCall c) ≡ TABLE
+
+-- Side queue q after a story, oldest entry first. A call leaves all but q as they were.
+abbrev pub side : Story → ℕ → List ℕ
+side h q = sideOf (kernel h) q
+
+abbrev pub OtherSides : Story → Call → ℕ → Type 0
+OtherSides h c q = (k : ℕ) → (k ≡ q → ⊥) → side (then h c) k ≡ side h k
+
+-- A call puts the event in hand, a block, last into side queue q. The step stays open, the block has a reference more, and no other has.
+pub record Defers (h : Story) (c : Call) (q : ℕ) : Type 0 where
+  pub block : ℕ
+  pub in-hand : kernel h .hand ≡ Block block
+  pub still : kernel (then h c) .hand ≡ kernel h .hand
+  pub last : side (then h c) q ≡ side h q ++ (entryOf (Block block) ∷ [])
+  pub others : OtherSides h c q
+  pub mail : kernel (then h c) .boxes ≡ kernel h .boxes
+  pub more : (b : ℕ) → b < blocks → refer (then h c) b ≡ refer h b + one (eqb block b)
+  pub entries : value₁ h c ≡ length (side (then h c) q)
+
+-- A call moves the oldest entry of side queue q to the front of p's mailbox. The others keep their order, and no block changes.
+pub record Recalls (h : Story) (c : Call) (q p : ℕ) : Type 0 where
+  pub oldest : ℕ
+  pub left : side h q ≡ oldest ∷ side (then h c) q
+  pub others : OtherSides h c q
+  pub front : boxOf (kernel (then h c)) p ≡ oldest ∷ boxOf (kernel h) p
+  pub other-mail : (k : ℕ) → 1 ≤ k → (k ≡ p → ⊥) → boxOf (kernel (then h c)) k ≡ boxOf (kernel h) k
+  pub still : kernel (then h c) .hand ≡ kernel h .hand
+  pub cells : kernel (then h c) .cells ≡ kernel h .cells
+  pub moved : value₁ h c ≡ 1
+
+-- Side queue q is empty, and a call finds none to move.
+pub record FindsNone (h : Story) (c : Call) (q : ℕ) : Type 0 where
+  pub empty : side h q ≡ []
+  pub same : kernel (then h c) ≡ kernel h
+  pub none : value₁ h c ≡ 0
+
+-- A call lets go of every entry of side queue q, and of nothing else: each block has as many references fewer as it stood there.
+pub record Flushes (h : Story) (c : Call) (q : ℕ) : Type 0 where
+  pub empty : side (then h c) q ≡ []
+  pub others : OtherSides h c q
+  pub mail : kernel (then h c) .boxes ≡ kernel h .boxes
+  pub holds : kernel (then h c) .events ≡ kernel h .events
+  pub still : kernel (then h c) .hand ≡ kernel h .hand
+  pub fewer : (b : ℕ) → b < blocks → refer (then h c) b + timesIn (entryOf (Block b)) (side h q) ≡ refer h b
+  pub entries : value₁ h c ≡ length (side h q)
+
+-- A block that is live: what an entry of a side queue stands for.
+pub record Lives (h : Story) (e : ℕ) : Type 0 where
+  pub block : ℕ
+  pub this : handOf e ≡ Block block
+  pub one-of : block < blocks
+  pub live : isLive (cell h block) ≡ true
 
 -- A slot of the tables, t, holds the chart d: accepted, its table, and flat and nested agree over any sequence of signals.
 pub record Holds (d t : List ℕ) : Type 0 where

@@ -140,11 +140,11 @@ mod tests {
         let absent = Refusal::Absent as u8;
         match (Command::read(record), answer) {
             (Some(Command::Recall { q, p }), 0) => {
-                let is_empty = before.set_aside(q) == 0;
-                let open = before.step_is_open().then_some("RECALL with a step open");
-                let full = is_empty && before.free_places(p) == 0;
-                let full = full.then_some("RECALL of nothing to a full mailbox");
-                open.into_iter().chain(full).collect()
+                let in_a_step = before.step_is_open();
+                let to_full = before.set_aside(q) == 0 && before.free_places(p) == 0;
+                let in_a_step = in_a_step.then_some("RECALL with a step open");
+                let to_full = to_full.then_some("RECALL of nothing to a full mailbox");
+                in_a_step.into_iter().chain(to_full).collect()
             }
             (Some(Command::Recall { q, .. }), refused) if refused == absent => {
                 vec![match before.set_aside(q) {
@@ -153,14 +153,14 @@ mod tests {
                 }]
             }
             (Some(Command::Flush { .. }), 0) => {
-                let lost = |&block: &u8| after.references(block) < before.references(block);
-                let of_block = |block: u8| match (before.references(block), after.references(block))
-                {
-                    (1, 0) => "FLUSH of a block's only reference",
-                    (_, 0) => "FLUSH of all of a block's several references",
+                let counts = BLOCKS.map(|block| [before, after].map(|k| k.references(block)));
+                let fallen = counts.filter(|[before, after]| after < before);
+                let names = fallen.map(|counts| match counts {
+                    [1, 0] => "FLUSH of a block's only reference",
+                    [_, 0] => "FLUSH of all of a block's several references",
                     _ => "FLUSH that leaves a block references",
-                };
-                BLOCKS.filter(lost).map(of_block).collect()
+                });
+                names.collect()
             }
             _ => Vec::new(),
         }

@@ -3,7 +3,7 @@
 use super::numbers::{MOST_SET_ASIDE, SIDE_QUEUES};
 use std::collections::VecDeque;
 
-/// Blocks, the oldest entry first: no timer's event is set aside.
+/// Blocks, the oldest first; a timer's event cannot be set aside.
 type SideQueue = VecDeque<u8>;
 
 #[derive(Clone, Debug, PartialEq, Eq)]
@@ -18,7 +18,7 @@ impl SideQueues {
         }
     }
 
-    /// None for a side queue that there is not.
+    /// 0 for a side queue out of range.
     pub fn entries(&self, q: u8) -> u8 {
         let queue = self.queues.get(usize::from(q));
         queue.map_or(0, |queue| queue.len() as u8)

@@ -220,10 +220,10 @@ impl Kernel {
         oldest.is_some()
     }
 
-    /// Lets go all entries of a side queue, one by one, so that a block goes back with
-    /// its last entry and not before; how many there were.
+    /// Lets go all entries of a side queue; how many there were.
     fn flush(&mut self, q: u8) -> u8 {
         let entries = self.set_aside(q);
+        // One by one, so that a block with several entries goes back once, with the last of them.
         while let Some(block) = self.side_queues.take_oldest(q) {
             self.free_without_reference(block);
         }

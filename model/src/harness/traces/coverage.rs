@@ -124,7 +124,7 @@ pub struct Coverage {
     cases: BTreeMap<usize, usize>,
 }
 
-/// An answer that the document's table gives a command but that never came.
+/// An answer that the documents give a command but that never came.
 struct Unseen {
     command: &'static str,
     answer: u8,
@@ -172,7 +172,7 @@ impl Coverage {
         Ok(())
     }
 
-    /// A dash stands where the document's table has no such answer.
+    /// A dash stands where the documents have no such answer.
     fn write_table(&self, out: &mut impl Write) -> io::Result<()> {
         write!(out, "{:12}", "")?;
         for name in ANSWER_NAMES {
@@ -216,7 +216,7 @@ fn name_of(record: &[u8]) -> &'static str {
     COMMAND_NAMES.get(index).unwrap_or(&UNKNOWN_NUMBER)
 }
 
-/// The answers that the document's table gives a command.
+/// The answers that the documents give a command.
 fn answers_of(command: &str) -> Vec<u8> {
     let Some(index) = COMMAND_NAMES.iter().position(|name| *name == command) else {
         return vec![FORM];

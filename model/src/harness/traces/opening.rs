@@ -20,8 +20,7 @@ pub fn random_opening(random: &mut Xorshift, charts: &Charts, signal: u8) -> Vec
     }
 }
 
-/// One event in all 256 mailbox places, in all 64 places of the side queues, in hand, and
-/// held 15 times.
+/// One event in all 256 mailbox places, in all 64 side places, in hand, and held 15 times.
 fn pile(slot: u8, signal: u8) -> Vec<Command> {
     let handle = Handle {
         block: 0,

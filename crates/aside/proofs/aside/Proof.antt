@@ -1,0 +1,14 @@
+use borrow.Author.Needs.{needs}
+use mathlib.Core.Path.{sym, _∙_}
+use Rattle.aside.proofs.Queues.{aside-is}
+use Rattle.aside.proofs.aside.Statement.{statement}
+use Rattle.aside.proofs.aside.Tie as tie
+
+returns : tie.Need-returns
+returns c =
+    let a = c .before .before .before .before .args in
+    let n = c .wide .ensures in
+    (n .0 ∙ c .before .byte-at .ensures ∙ sym (aside-is (a .k) (a .q)), n .1)
+
+pub aside-spec : {M : Type 1} → statement M
+aside-spec = tie.close (tie.spec (λ c. search needs) (λ c κs. search needs) (λ c κs. search needs) returns)
