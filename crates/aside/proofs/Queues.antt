@@ -133,6 +133,7 @@ module _ (box list : List ℕ) (i : ℕ) (e : take i list ≡ firstBlocks box i)
   pub all-listed : (n : ℕ) → i ≡ n → length box ≡ n → take n list ≡ blocksIn box
   all-listed n same long = rw (long, ← same) e
 
-pub flushed-is : (s : State) (q : ℕ) → length (s .cells) ≤ 255 → flushed s q ≡ withSides (emptied (s .sides) q) (withCells (goneAll (s .cells) (blocksIn (sideOf s q))) s)
+pub flushed-is : (s : State) (q n : ℕ) (list : List ℕ) → length (s .cells) ≤ 255 → take n list ≡ blocksIn (sideOf s q) →
+    withSides (emptied (s .sides) q) (withCells (goneAll (s .cells) (take (n - 0) list)) s) ≡ flushed s q
 unfolding flushed
-flushed-is s q m = rw (let-go-each (sideOf s q) s m) refl
+flushed-is s q n list m e = let z : n - 0 ≡ n = omega arith in rw (let-go-each (sideOf s q) s m, z, e) refl

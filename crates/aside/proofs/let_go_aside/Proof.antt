@@ -1,6 +1,5 @@
 use borrow.Author.Needs.{needs}
-use mathlib.Core.Path.{_≡_, refl, _∙_}
-use Prim.Native.Nat.{_-_}
+use mathlib.Core.Path.{refl, _∙_}
 use native.Mathlib.Omega.{arith}
 use Rattle.state.proofs.Arrays.{side-rings, sides-of}
 use Rattle.state.specs.View.{stateOf}
@@ -26,15 +25,8 @@ unfolding stateOf
 returns c =
     let s = c .before .before .before .before .before .before .before .before .before .before .before .before .before .before in
     let a = s .args in
-    let z : a .n - 0 ≡ a .n = omega arith in
-    rw (
-      flushed-is (stateOf (a .k)) (a .q) (omega (arith, s .pre .0 .store .cells-length)),
-      c .let-go-all .ensures,
-      z,
-      c .before .before .before .before .before .before .list-blocks .ensures .0,
-      c .before .before .before .before .empty .ensures (a .k .«side_places») (a .k .«side_heads») (sides-of (a .k) _ (s .good .0)) .are,
-    )
-    refl
+    rw (c .let-go-all .ensures, c .before .before .before .before .empty .ensures (a .k .«side_places») (a .k .«side_heads») (sides-of (a .k) _ (s .good .0)) .are)
+    (flushed-is (stateOf (a .k)) (a .q) (a .n) _ (omega (arith, s .pre .0 .store .cells-length)) (c .before .before .before .before .before .before .list-blocks .ensures .0))
 
 pub let-go-aside-spec : {M : Type 1} → statement M
 let-go-aside-spec =
