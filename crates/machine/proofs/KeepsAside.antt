@@ -16,10 +16,10 @@ use Rattle.machine.proofs.Blocks.{events-inv, setAside-keeps}
 use Rattle.machine.proofs.Counts.{refers, live-counted}
 use Rattle.machine.proofs.Flush.{let-go-each, gone-counted}
 use Rattle.machine.proofs.Parts.{mail-front, sides-took, sides-emptied}
-use Rattle.machine.proofs.Tests.{within-low, within-high, unless-state}
+use Rattle.machine.proofs.Tests.{within-low, within-high, within-side, unless-state}
 use Rattle.machine.specs.Aside.{deferTests, setAside, defer, recallTests, oldest, recalled, recallDone, recall, flushTests, flushed, flush}
 use Rattle.machine.specs.Inv.{Inv, references, inHand, isLive, IsEvent, IsBlock, InHand}
-use Rattle.machine.specs.Numbers.{objects, sideQueues, mostAside, noSide}
+use Rattle.machine.specs.Numbers.{objects, sideQueues, mostAside}
 use Rattle.machine.specs.Reply.{Areas}
 use Rattle.machine.specs.Run.{blocksIn}
 use Rattle.machine.specs.State.{State, sideOf, room}
@@ -74,9 +74,6 @@ module _ (s : State) (i : Inv s) where
 
 -- The commands.
 module _ (s : State) (z : Areas) (i : Inv s) where
-  within-side : (q : ℕ) → noSide q ≡ false → q < sideQueues
-  within-side q e = omega (arith, within-high 0 7 q e)
-
   pub defer-keeps : (spoilt : Bool) (q : ℕ) → Inv (defer spoilt q s z .state)
   unfolding defer deferTests
   defer-keeps spoilt q =

@@ -9,7 +9,7 @@ use lib.Dec.{eqb, ltb}
 use Rattle.chart.specs.Numbers.{firstSignal, lastSignal}
 use Rattle.ground.specs.Bools.{no-yes, and-left, and-right}
 use Rattle.machine.specs.Inv.{IsSignal}
-use Rattle.machine.specs.Numbers.{blocks, outside, noSignal, noBlock}
+use Rattle.machine.specs.Numbers.{blocks, sideQueues, outside, noSignal, noBlock, noSide}
 use Rattle.machine.specs.Reply.{no, badChart, Areas, Answer, answer, lowest, unless, unlessFault}
 use Rattle.machine.specs.State.{State}
 
@@ -61,6 +61,9 @@ within-signal g e = record { low = within-low firstSignal lastSignal g e; high =
 
 pub within-block : (b : ℕ) → noBlock b ≡ false → b < blocks
 within-block b e = omega (arith, within-high 0 (blocks - 1) b e)
+
+pub within-side : (q : ℕ) → noSide q ≡ false → q < sideQueues
+within-side q e = omega (arith, within-high 0 (sideQueues - 1) q e)
 
 -- What a command answers: a refusal, or what it does.
 module _ (s : State) (z : Areas) (a : Answer) where

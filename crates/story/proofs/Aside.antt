@@ -1,6 +1,6 @@
 -- Document 02, request 3: what DEFER, RECALL and FLUSH do to the side queues, that nothing else changes them, and that what is set aside lives.
 use mathlib.Core.Bool.{true, false}
-use mathlib.Core.List.{List, [], _∷_, _++_}
+use mathlib.Core.List.{List, [], _∷_}
 use mathlib.Core.Logic.{_⊎_, inl, inr, ⊎-elim}
 use mathlib.Core.Path.{_≡_, refl, sym, ap, _∙_}
 use Prim.Native.Nat.{ℕ, zero, suc, _+_, _-_, _≤_, _<_}
@@ -17,7 +17,7 @@ use Rattle.mail.specs.declared.Hand.{Hand}
 use Rattle.mail.specs.declared.Hand.the-variants.{Nothing, Block, Timer}
 use Rattle.machine.proofs.Counts.{live-counted, same-entry}
 use Rattle.machine.proofs.Flush.{a-block, let-go-each}
-use Rattle.machine.proofs.Tests.{NoneHolds, none-holds, within-low, within-high}
+use Rattle.machine.proofs.Tests.{NoneHolds, none-holds, within-low, within-high, within-side}
 use Rattle.machine.specs.Aside
 use Rattle.machine.specs.Aside.{isTimer, deferTests, setAside, recallTests, recallDone, flushTests}
 use Rattle.machine.specs.Inv.{Inv, references}
@@ -28,7 +28,7 @@ use Rattle.machine.specs.State.{State, boxOf, sideOf, isOpen}
 use Rattle.story.specs.Calls.{Call, Story, then, kernel, answerIn}
 use Rattle.story.specs.Demands.{Deferred, Recalled, Flushed, OnlyAside, KeptAside}
 use Rattle.story.specs.Table.{DEFER, RECALL, FLUSH}
-use Rattle.story.specs.Terms.{argument, commandOf, number, Did, cell, side, OtherSides, Defers, Recalls, FindsNone, Flushes, Lives}
+use Rattle.story.specs.Terms.{argument, commandOf, number, Did, cell, side, OtherSides, Defers, Recalls, FindsNone}
 use Rattle.story.proofs.Made.{Made, defer-made, recall-made, flush-made}
 use Rattle.story.proofs.Refusals.{kept}
 use Rattle.story.proofs.Tables.{frame, unchanged-state}
@@ -42,9 +42,9 @@ abbrev target : Call → ℕ
 target c = argument c 2
 
 -- ## The machine's states
--- a side queue that a command may name is one of the eight
+-- a side queue that a command may name is there
 within : (q : ℕ) (s : State) → Inv s → noSide q ≡ false → q < length (s .sides)
-within q s i e = omega (arith, within-high 0 7 q e, i .aside .sides-length)
+within q s i e = omega (arith, within-side q e, i .aside .sides-length)
 
 module _ (s : State) (q : ℕ) (l : q < length (s .sides)) where
   refer-more : (b k : ℕ) → references (setAside (Block b) q s) k ≡ references s k + one (eqb b k)
