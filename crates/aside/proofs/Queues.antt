@@ -13,7 +13,7 @@ use Rattle.ground.specs.Bools.{no-yes}
 use Rattle.ground.specs.Range.{tab}
 use Rattle.ground.specs.Tab.{tab-snoc}
 use Rattle.machine.proofs.Flush.{let-go-each}
-use Rattle.machine.proofs.Tests.{none-holds, within-low, within-high}
+use Rattle.machine.proofs.Tests.{none-holds, within-low, within-high, within-side}
 use Rattle.machine.specs.Aside.{isTimer, deferTests, setAside, recallTests, recalled, recallDone, flushTests, flushed}
 use Rattle.machine.specs.Events.{counted}
 use Rattle.machine.specs.Inv.{Inv, IsBlock, InHand}
@@ -35,9 +35,6 @@ use Rattle.state.specs.declared.Kernel.{Kernel}
 pub aside-is : (k : Kernel) (q : ℕ) → length (sideOf (stateOf k) q) ≡ getD (k .«side_counts») q 0
 unfolding stateOf
 aside-is k q = queued-in (k .«side_places») (k .«side_heads») (k .«side_counts») q
-
-within-side : (q : ℕ) → noSide q ≡ false → q < sideQueues
-within-side q e = omega (arith, within-high 0 7 q e)
 
 -- DEFER: the side queue is one of them, it has room, and a block is in hand.
 pub record Deferrable (s : State) (q : ℕ) : Type 0 where

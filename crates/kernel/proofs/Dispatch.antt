@@ -20,9 +20,9 @@ use Rattle.state.specs.View.{Good, answered, stateOf}
 use Rattle.state.specs.declared.Answered.{Answered}
 use Rattle.state.specs.declared.Kernel.{Kernel}
 
--- Commands have the numbers 1 to 18.
+-- Commands have the numbers 1 to 21.
 abbrev last : ℕ
-last = 18
+last = 21
 
 -- n is none of 1 to m
 abbrev NoneTo : ℕ → ℕ → Type 0
@@ -55,6 +55,9 @@ unknown-form n r d s z h =
       off 16 refl,
       off 17 refl,
       off 18 refl,
+      off 19 refl,
+      off 20 refl,
+      off 21 refl,
     )
     refl
   where

@@ -83,6 +83,9 @@ pub fn command(
         command::TICK => clocks::records::tick_command(k, record),
         command::READ => payloads::records::read_command(k, record, payloads),
         command::DRAIN => steps::records::drain_command(k, record, tables, log),
+        command::DEFER => aside::records::defer_command(k, record),
+        command::RECALL => aside::records::recall_command(k, record),
+        command::FLUSH => aside::records::flush_command(k, record),
         _ => state::refuse(k, FORM),
     }
 }

@@ -74,7 +74,16 @@ returns-19 : tie.Need-returns-19
 returns-19 c = arm (c .before .before .before .before .before .before) _ _ _ 18 (c .before .before .before .before .before .match .keys18) (c .before .before .drain-command .ensures _ _)
 
 returns-20 : tie.Need-returns-20
-returns-20 c =
+returns-20 c = arm (c .before .before) _ _ _ 19 (c .before .match .keys19) (c .defer-command .ensures _ _)
+
+returns-21 : tie.Need-returns-21
+returns-21 c = arm (c .before .before) _ _ _ 20 (c .before .match .keys20) (c .recall-command .ensures _ _)
+
+returns-22 : tie.Need-returns-22
+returns-22 c = arm (c .before .before) _ _ _ 21 (c .before .match .keys21) (c .flush-command .ensures _ _)
+
+returns-23 : tie.Need-returns-23
+returns-23 c =
     let s = c .before .before .before .before .before .before .before .before .before in
     unknown (s .args .k) (s .pre) _ _ _ _ _ (c .refuse2 .ensures) refl (c .before .before .before .if1 .left) (c .before .match .rest)
 
@@ -85,7 +94,7 @@ command-spec =
     (λ c κs. search needs) (λ c κs. search needs) (λ c κs. search needs) (λ c κs. search needs) (λ c κs. search needs) (λ c κs. search needs)
     (λ c κs. search needs) (λ c κs. search needs) (λ c κs. search needs) (λ c κs. search needs) (λ c κs. search needs) (λ c κs. search needs)
     (λ c κs. search needs) (λ c κs. search needs) (λ c κs. search needs) (λ c κs. search needs) (λ c κs. search needs) (λ c κs. search needs)
-    (λ c κs. search needs)
+    (λ c κs. search needs) (λ c κs. search needs) (λ c κs. search needs) (λ c κs. search needs)
     (λ c. search needs) returns-2 (λ c. search needs) returns-3 (λ c. search needs) returns-4 returns-5 returns-6 returns-7 returns-8
     returns-9 returns-10 returns-11 returns-12 (λ c. search needs) returns-13 returns-14 returns-15 returns-16 returns-17
-    (λ c. search needs) returns-18 (λ c. search needs) (λ c. search needs) returns-19 returns-20)
+    (λ c. search needs) returns-18 (λ c. search needs) (λ c. search needs) returns-19 returns-20 returns-21 returns-22 returns-23)
