@@ -13,6 +13,7 @@ timing places heads counts counters depths owners alarms intervals s = record {
   cells = s .cells;
   events = s .events;
   boxes = boxes places heads counts;
+  sides = s .sides;
   objects = record { depths = depths; rests = s .objects .rests; seats = s .objects .seats };
   wants = s .wants;
   loaded = s .loaded;

@@ -16,6 +16,10 @@ returns : tie.Need-returns
 unfolding disarm
 returns c = λ z. refusal _ _ _ _ z _ (tests-are (c .before .before)) (c .before .if1 .taken) (c .refuse .ensures)
 
+counter-of-requires : tie.Need-counter-of-requires
+unfolding stateOf
+counter-of-requires c κs = c .before .before .before .before .pre .timers .counters-length
+
 disarm-timer-requires : tie.Need-disarm-timer-requires
 disarm-timer-requires c κs =
     let t = c .before .before .before .before in
@@ -28,4 +32,4 @@ returns-2 c =
     (rw (c .before .before .disarm-timer .ensures, c .done .ensures, c .before .one .ensures .0, c .before .before .before .counter-of .ensures) refl)
 
 pub disarm-spec : {M : Type 1} → statement M
-disarm-spec = tie.close (tie.spec (λ c κs. search needs) (λ c κs. search needs) returns (λ c κs. search needs) disarm-timer-requires (λ c κs. search needs) (λ c κs. search needs) returns-2)
+disarm-spec = tie.close (tie.spec (λ c κs. search needs) (λ c κs. search needs) returns counter-of-requires disarm-timer-requires (λ c κs. search needs) (λ c κs. search needs) returns-2)
