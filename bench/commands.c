@@ -116,7 +116,7 @@ static void expect_answers(const struct bench_case *timed)
 {
     for (size_t i = 0; i < BATCH; i++)
         if (memcmp(&answers[i], &timed->expected, calls[timed->call].answer_bytes) != 0)
-            fail("not the answer of document 01", timed->name);
+            fail("not the answer of the documents", timed->name);
 }
 
 /* The time of one call, as the mean of a batch; the calls' own stack begins so many bytes lower. */

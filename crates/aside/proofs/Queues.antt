@@ -1,5 +1,5 @@
 -- DEFER, RECALL and FLUSH: their tests by what the code reads, what it says that none of them holds, and what is done with the entries.
-use mathlib.Core.Bool.{Bool, true, false, not, _&&_}
+use mathlib.Core.Bool.{Bool, false, not, _&&_}
 use mathlib.Core.List.{List, [], _∷_}
 use mathlib.Core.Path.{_≡_, refl, sym}
 use Prim.Native.Nat.{ℕ, zero, suc, _+_, _-_, _<_, _≤_}
@@ -9,14 +9,14 @@ use borrow.Author.Tests.{leb-false, eqb-false, ne-eqb, not-false}
 use lib.Dec.{eqb, leb}
 use lib.ListN.{length, getD, set, take}
 use lib.Seq.{take-suc-set}
-use Rattle.ground.specs.Bools.{no-yes}
 use Rattle.ground.specs.Range.{tab}
 use Rattle.ground.specs.Tab.{tab-snoc}
 use Rattle.machine.proofs.Flush.{let-go-each}
+use Rattle.machine.proofs.KeepsAside.{open-block}
 use Rattle.machine.proofs.Tests.{none-holds, within-low, within-high, within-side}
 use Rattle.machine.specs.Aside.{isTimer, deferTests, setAside, recallTests, recalled, recallDone, flushTests, flushed}
 use Rattle.machine.specs.Events.{counted}
-use Rattle.machine.specs.Inv.{Inv, IsBlock, InHand}
+use Rattle.machine.specs.Inv.{Inv, IsBlock}
 use Rattle.machine.specs.Numbers.{mostAside, noObject, noSide, objects, sideQueues}
 use Rattle.machine.specs.Reply.{ABSENT, FORM, FULL, NOSTEP, RANGE, STALE, Areas, answer, done, lowest}
 use Rattle.machine.specs.Run.{blockOf, blocksIn}
@@ -41,12 +41,6 @@ pub record Deferrable (s : State) (q : ℕ) : Type 0 where
   pub side : q < sideQueues
   pub free : length (sideOf s q) < mostAside
   pub block : IsBlock (s .hand)
-
-open-block : (h : Hand) → InHand h → isOpen h ≡ true → isTimer h ≡ false → IsBlock h
-unfolding InHand isOpen isTimer IsBlock
-open-block Nothing i o t = no-yes o
-open-block (Block b) i o t = i
-open-block (Timer t g) i o n = no-yes (sym n)
 
 module _ (spoilt : Bool) (q : ℕ) (s : State) where
   pub defer-tests : (busy timer : Bool) (n : ℕ) → busy ≡ isOpen (s .hand) → timer ≡ isTimer (s .hand) → n ≡ length (sideOf s q) →

@@ -1,11 +1,12 @@
 -- The commands on side queues keep the invariant.
 use mathlib.Core.Bool.{Bool, true, false}
-use mathlib.Core.Path.{_≡_, refl}
+use mathlib.Core.Path.{_≡_, refl, sym}
 use Prim.Native.Nat.{ℕ, zero, suc, _-_, _≤_, _<_}
 use native.Mathlib.Omega.{arith}
 use borrow.Author.Tests.{eqb-false, eq-eqb, ne-eqb, leb-false}
 use lib.Dec.{eqb}
 use lib.ListN.{length}
+use Rattle.ground.specs.Bools.{no-yes}
 use Rattle.mail.specs.Box.{pushFront, tookFront, emptied}
 use Rattle.mail.specs.Entry.{entryOf, handOf}
 use Rattle.mail.specs.Laws.{occurrences-front, occurrences-took, occurrences-emptied}
@@ -17,18 +18,25 @@ use Rattle.machine.proofs.Counts.{refers, live-counted}
 use Rattle.machine.proofs.Flush.{let-go-each, gone-counted}
 use Rattle.machine.proofs.Parts.{mail-front, sides-took, sides-emptied}
 use Rattle.machine.proofs.Tests.{within-low, within-high, within-side, unless-state}
-use Rattle.machine.specs.Aside.{deferTests, setAside, defer, recallTests, oldest, recalled, recallDone, recall, flushTests, flushed, flush}
+use Rattle.machine.specs.Aside.{isTimer, deferTests, setAside, defer, recallTests, oldest, recalled, recallDone, recall, flushTests, flushed, flush}
 use Rattle.machine.specs.Inv.{Inv, references, inHand, isLive, IsEvent, IsBlock, InHand}
 use Rattle.machine.specs.Numbers.{objects, sideQueues, mostAside}
 use Rattle.machine.specs.Reply.{Areas}
 use Rattle.machine.specs.Run.{blocksIn}
-use Rattle.machine.specs.State.{State, sideOf, room}
+use Rattle.machine.specs.State.{State, sideOf, room, isOpen}
 
 pub block-event : (h : Hand) → IsBlock h → IsEvent h
 unfolding IsBlock IsEvent
 block-event Nothing is = absurd is
 block-event (Block b) is = is
 block-event (Timer t g) is = absurd is
+
+-- an event in hand that is no timer's is a block
+pub open-block : (h : Hand) → InHand h → isOpen h ≡ true → isTimer h ≡ false → IsBlock h
+unfolding InHand isOpen isTimer IsBlock
+open-block Nothing i on off = no-yes on
+open-block (Block b) i on off = i
+open-block (Timer t g) i on off = no-yes (sym off)
 
 module _ (s : State) (i : Inv s) where
   -- a block in hand is live

@@ -1,5 +1,5 @@
 -- Document 02, request 3: what DEFER, RECALL and FLUSH do to the side queues, that nothing else changes them, and that what is set aside lives.
-use mathlib.Core.Bool.{true, false}
+use mathlib.Core.Bool.{false}
 use mathlib.Core.List.{List, [], _∷_}
 use mathlib.Core.Logic.{_⊎_, inl, inr, ⊎-elim}
 use mathlib.Core.Path.{_≡_, refl, sym, ap, _∙_}
@@ -9,22 +9,22 @@ use native.Mathlib.Omega.{arith}
 use borrow.Author.Tests.{not-false}
 use lib.Dec.{eqb}
 use lib.ListN.{length, getD}
-use Rattle.ground.specs.Bools.{eq-or, no-yes}
+use Rattle.ground.specs.Bools.{eq-or}
 use Rattle.mail.specs.Box.{boxAt, behind, ahead, rest, bare, one, occurrences, timesIn}
 use Rattle.mail.specs.Entry.{entryOf, handOf}
 use Rattle.mail.specs.Laws.{block-entry, changed-here, changed-other, behind-length, occurrences-back, occurrences-emptied, occurrences-has}
-use Rattle.mail.specs.declared.Hand.{Hand}
-use Rattle.mail.specs.declared.Hand.the-variants.{Nothing, Block, Timer}
+use Rattle.mail.specs.declared.Hand.the-variants.{Block}
 use Rattle.machine.proofs.Counts.{live-counted, same-entry}
 use Rattle.machine.proofs.Flush.{a-block, let-go-each}
+use Rattle.machine.proofs.KeepsAside.{open-block}
 use Rattle.machine.proofs.Tests.{NoneHolds, none-holds, within-low, within-high, within-side}
 use Rattle.machine.specs.Aside
-use Rattle.machine.specs.Aside.{isTimer, deferTests, setAside, recallTests, recallDone, flushTests}
+use Rattle.machine.specs.Aside.{deferTests, setAside, recallTests, recallDone, flushTests}
 use Rattle.machine.specs.Inv.{Inv, references}
 use Rattle.machine.specs.Machine.{spoilt}
 use Rattle.machine.specs.Numbers.{objects, noSide}
 use Rattle.machine.specs.Reply.{answer, done, replyOf, bytes}
-use Rattle.machine.specs.State.{State, boxOf, sideOf, isOpen}
+use Rattle.machine.specs.State.{State, boxOf, sideOf}
 use Rattle.story.specs.Calls.{Call, Story, then, kernel, answerIn}
 use Rattle.story.specs.Demands.{Deferred, Recalled, Flushed, OnlyAside, KeptAside}
 use Rattle.story.specs.Table.{DEFER, RECALL, FLUSH}
@@ -81,17 +81,12 @@ module _ (h : Story) (c : Call) (did : Did DEFER h c) where
         entries = ap (λ a. getD (a .reply) 4 0) (defers .is) ∙ sym (ap length here ∙ behind-length (entryOf (Block b)) (side h (queue c)));
       }
 
-  by-hand : (x : Hand) → kernel h .hand ≡ x → isOpen x ≡ true → isTimer x ≡ false → queue c < length (kernel h .sides) → Defers h c (queue c)
-  unfolding isOpen isTimer
-  by-hand Nothing e on off l = no-yes on
-  by-hand (Timer t g) e on off l = no-yes (sym off)
-  by-hand (Block b) e on off l = with-block b e l
-
 pub deferred : Deferred
 unfolding deferTests
 deferred h c did =
     let t = none-of h c did in
-    by-hand h c did (kernel h .hand) refl (not-false _ (t .1 .1 .0)) (t .1 .1 .1 .0) (within (queue c) (kernel h) (kept h) (t .1 .0))
+    let a = a-block (kernel h .hand) (open-block (kernel h .hand) (kept h .in-hand) (not-false _ (t .1 .1 .0)) (t .1 .1 .1 .0)) in
+    with-block h c did (a .block) (a .is) (within (queue c) (kernel h) (kept h) (t .1 .0))
 
 -- ## RECALL
 -- the rest behind the oldest
