@@ -12,14 +12,14 @@ use lib.ListN.{length, getD}
 use Rattle.ground.specs.Bools.{eq-or}
 use Rattle.mail.specs.Box.{boxAt, behind, ahead, rest, bare, one, occurrences, timesIn}
 use Rattle.mail.specs.Entry.{entryOf, handOf}
-use Rattle.mail.specs.Laws.{block-entry, changed-here, changed-other, behind-length, occurrences-back, occurrences-emptied, occurrences-has}
+use Rattle.mail.specs.Laws.{block-entry, changed-here, changed-other, behind-length, occurrences-back, occurrences-front, occurrences-took, occurrences-emptied, occurrences-has}
 use Rattle.mail.specs.declared.Hand.the-variants.{Block}
 use Rattle.machine.proofs.Counts.{live-counted, same-entry}
 use Rattle.machine.proofs.Flush.{a-block, let-go-each}
 use Rattle.machine.proofs.KeepsAside.{open-block}
 use Rattle.machine.proofs.Tests.{NoneHolds, none-holds, within-low, within-high, within-side}
 use Rattle.machine.specs.Aside
-use Rattle.machine.specs.Aside.{deferTests, setAside, recallTests, recallDone, flushTests}
+use Rattle.machine.specs.Aside.{deferTests, setAside, recallTests, oldest, recallDone, flushTests}
 use Rattle.machine.specs.Inv.{Inv, references}
 use Rattle.machine.specs.Machine.{spoilt}
 use Rattle.machine.specs.Numbers.{objects, noSide}
@@ -55,6 +55,12 @@ module _ (s : State) (q : ℕ) (l : q < length (s .sides)) where
   unfolding references Aside.flushed
   refer-fewer m k = rw (let-go-each (sideOf s q) s m) (omega (arith, occurrences-emptied (s .sides) q l (entryOf (Block k))))
 
+refer-same : (s : State) (q p : ℕ) → 0 < length (sideOf s q) → p - 1 < length (s .boxes) → (k : ℕ) → references (Aside.recalled s q p) k ≡ references s k
+unfolding references Aside.recalled
+refer-same s q p some l k =
+    let e = entryOf (Block k) in
+    omega (arith, occurrences-front (s .boxes) (p - 1) l (oldest (sideOf s q)) e, occurrences-took (s .sides) q some e)
+
 -- ## DEFER
 module _ (h : Story) (c : Call) (did : Did DEFER h c) where
   defers : Made (answerIn h c) (deferTests (spoilt 1 (c .command)) (queue c) (kernel h))
@@ -77,7 +83,7 @@ module _ (h : Story) (c : Call) (did : Did DEFER h c) where
         last = here;
         others = λ k ne. rw is (changed-other (behind (entryOf (Block b))) (kernel h .sides) (queue c) k ne);
         mail = rw is refl;
-        more = λ k m. rw is (refer-more (kernel h) (queue c) l b k);
+        more = λ k. rw is (refer-more (kernel h) (queue c) l b k);
         entries = ap (λ a. getD (a .reply) 4 0) (defers .is) ∙ sym (ap length here ∙ behind-length (entryOf (Block b)) (side h (queue c)));
       }
 
@@ -120,6 +126,7 @@ module _ (h : Story) (c : Call) (did : Did RECALL h c) where
         other-mail = λ k m ne. ap (λ a. boxOf (a .state) k) is ∙ changed-other (ahead oldest) (s .boxes) (target c - 1) (k - 1) (λ z. ne (omega arith));
         still = ap (λ a. a .state .hand) is;
         cells = ap (λ a. a .state .cells) is;
+        same = λ k. ap (λ a. references (a .state) k) is ∙ refer-same s (queue c) (target c) (omega arith) (omega (arith, kept h .mail .boxes-length)) k;
         moved = ap (λ a. getD (a .reply) 4 0) is;
       })
 
@@ -142,7 +149,7 @@ flushed h c did =
       mail = ap (λ a. a .state .boxes) (m .is) ∙ ap (λ x. x .boxes) each;
       holds = ap (λ a. a .state .events) (m .is) ∙ ap (λ x. x .events) each;
       still = ap (λ a. a .state .hand) (m .is) ∙ ap (λ x. x .hand) each;
-      fewer = λ k n. rw (ap (λ a. references (a .state) k) (m .is)) (refer-fewer s q l few k);
+      fewer = λ k. rw (ap (λ a. references (a .state) k) (m .is)) (refer-fewer s q l few k);
       entries = ap (λ a. getD (a .reply) 4 0) (m .is);
     }
 

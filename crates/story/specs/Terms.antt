@@ -163,10 +163,10 @@ pub record Defers (h : Story) (c : Call) (q : ℕ) : Type 0 where
   pub last : side (then h c) q ≡ side h q ++ (entryOf (Block block) ∷ [])
   pub others : OtherSides h c q
   pub mail : kernel (then h c) .boxes ≡ kernel h .boxes
-  pub more : (b : ℕ) → b < blocks → refer (then h c) b ≡ refer h b + one (eqb block b)
+  pub more : (b : ℕ) → refer (then h c) b ≡ refer h b + one (eqb block b)
   pub entries : value₁ h c ≡ length (side (then h c) q)
 
--- A call moves the oldest entry of side queue q to the front of p's mailbox. The others keep their order, and no block changes.
+-- A call moves the oldest entry of side queue q to the front of p's mailbox. The others keep their order, and no count changes.
 pub record Recalls (h : Story) (c : Call) (q p : ℕ) : Type 0 where
   pub oldest : ℕ
   pub left : side h q ≡ oldest ∷ side (then h c) q
@@ -175,6 +175,7 @@ pub record Recalls (h : Story) (c : Call) (q p : ℕ) : Type 0 where
   pub other-mail : (k : ℕ) → 1 ≤ k → (k ≡ p → ⊥) → boxOf (kernel (then h c)) k ≡ boxOf (kernel h) k
   pub still : kernel (then h c) .hand ≡ kernel h .hand
   pub cells : kernel (then h c) .cells ≡ kernel h .cells
+  pub same : (b : ℕ) → refer (then h c) b ≡ refer h b
   pub moved : value₁ h c ≡ 1
 
 -- Side queue q is empty, and a call finds none to move.
@@ -190,7 +191,7 @@ pub record Flushes (h : Story) (c : Call) (q : ℕ) : Type 0 where
   pub mail : kernel (then h c) .boxes ≡ kernel h .boxes
   pub holds : kernel (then h c) .events ≡ kernel h .events
   pub still : kernel (then h c) .hand ≡ kernel h .hand
-  pub fewer : (b : ℕ) → b < blocks → refer (then h c) b + timesIn (entryOf (Block b)) (side h q) ≡ refer h b
+  pub fewer : (b : ℕ) → refer (then h c) b + timesIn (entryOf (Block b)) (side h q) ≡ refer h b
   pub entries : value₁ h c ≡ length (side h q)
 
 -- A block that is live: what an entry of a side queue stands for.
