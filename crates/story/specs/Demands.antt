@@ -104,7 +104,7 @@ OnlyAside =
     (h : Story) (c : Call) (q : ℕ) → (side (then h c) q ≡ side h q → ⊥) →
     (argument c 1 ≡ q) × (Did DEFER h c ⊎ (Did RECALL h c ⊎ Did FLUSH h c))
 
--- What is set aside is there as long as it is: each entry is a live block, and so has the bytes that its NEW gave (Payloads).
+-- Nothing that is set aside is freed: each entry of a side queue is a live block, and so has the bytes that its NEW gave (Payloads).
 abbrev pub KeptAside : Type 0
 KeptAside = (h : Story) (q i : ℕ) → i < length (side h q) → Lives h (getD (side h q) i 0)
 
