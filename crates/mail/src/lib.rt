@@ -1,5 +1,6 @@
 // The mailboxes: for each object, of any number of them, a ring of 16 places, all in one array. Objects are counted from 0 here. The side
-// queues are such rings too. What stands above relies on the promises alone, which speak of `boxes places heads counts`, the lists of entries that the three arrays hold.
+// queues are such rings too. What stands above relies on the promises alone, which speak of `boxes places heads counts`, the lists of
+// entries that the three arrays hold.
 ghost use mathlib.Core.List.{List};
 ghost use mathlib.Core.Path.{_≡_};
 ghost use Prim.Native.Nat.{ℕ, _+_, _*_, _-_, _^_, _<_, _≤_};
