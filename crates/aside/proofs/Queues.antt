@@ -1,25 +1,24 @@
 -- DEFER, RECALL and FLUSH: their tests by what the code reads, what it says that none of them holds, and what is done with the entries.
-use mathlib.Core.Bool.{Bool, false, not, _&&_}
+use mathlib.Core.Bool.{Bool, not, _&&_}
 use mathlib.Core.List.{List, [], _∷_}
 use mathlib.Core.Path.{_≡_, refl, sym}
 use Prim.Native.Nat.{ℕ, zero, suc, _+_, _-_, _<_, _≤_}
 use native.Mathlib.Numerals.{add-one}
 use native.Mathlib.Omega.{arith}
-use borrow.Author.Tests.{leb-false, eqb-false, ne-eqb, not-false}
+use borrow.Author.Tests.{leb-false, not-false}
 use lib.Dec.{eqb, leb}
 use lib.ListN.{length, getD, set, take}
 use lib.Seq.{take-suc-set}
-use Rattle.ground.specs.Range.{tab}
 use Rattle.ground.specs.Tab.{tab-snoc}
 use Rattle.machine.proofs.Flush.{let-go-each}
-use Rattle.machine.proofs.KeepsAside.{open-block}
+use Rattle.machine.proofs.KeepsAside.{has-place, open-block}
 use Rattle.machine.proofs.Tests.{none-holds, within-low, within-high, within-side}
 use Rattle.machine.specs.Aside.{isTimer, deferTests, setAside, recallTests, recalled, recallDone, flushTests, flushed}
 use Rattle.machine.specs.Events.{counted}
 use Rattle.machine.specs.Inv.{Inv, IsBlock}
 use Rattle.machine.specs.Numbers.{mostAside, noObject, noSide, objects, sideQueues}
 use Rattle.machine.specs.Reply.{ABSENT, FORM, FULL, NOSTEP, RANGE, STALE, Areas, answer, done, lowest}
-use Rattle.machine.specs.Run.{blockOf, blocksIn}
+use Rattle.machine.specs.Run.{blockOf, blocksIn, firstBlocks}
 use Rattle.machine.specs.State.{State, isOpen, sideOf, withCells, withSides}
 use Rattle.mail.specs.Box.{boxAt, emptied, pushBack, room}
 use Rattle.mail.specs.Entry.{handOf}
@@ -73,9 +72,6 @@ pub record Recallable (k : Kernel) (q p : ℕ) : Type 0 where
   pub high : p ≤ objects
   pub free : getD (k .counts) (p - 1) 0 < room
 
-has-place : (n room : ℕ) → (n ≡ 0 → ⊥) → (not (eqb n 0) && eqb room 0) ≡ false → 0 < room
-has-place n room ne e = let f : eqb room 0 ≡ false = rw (ne-eqb n 0 ne) at e in omega (arith, eqb-false room 0 f)
-
 module _ (k : Kernel) (spoilt : Bool) (q p : ℕ) where
   pub recall-tests : (d c n room : ℕ) → d ≡ getD (k .depths) (p - 1) 0 → c ≡ getD (k .counts) (p - 1) 0 → n ≡ length (sideOf (stateOf k) q) → room ≡ d - c →
       lowest ((FORM, spoilt) ∷ (RANGE, noSide q) ∷ (RANGE, noObject p) ∷ (ABSENT, not (not (eqb d 0))) ∷ (FULL, not (eqb n 0) && eqb room 0) ∷ [])
@@ -113,9 +109,6 @@ module _ (n q p : ℕ) (s : State) (z : Areas) where
 pub flush-within : (spoilt : Bool) (q : ℕ) → lowest (flushTests spoilt q) ≡ 0 → q < sideQueues
 unfolding flushTests
 flush-within spoilt q e = within-side q (none-holds (flushTests spoilt q) refl e .1 .0)
-
-abbrev pub firstBlocks : List ℕ → ℕ → List ℕ
-firstBlocks box n = tab (λ i. blockOf (handOf (getD box i 0))) n
 
 module _ (box list : List ℕ) (i : ℕ) (e : take i list ≡ firstBlocks box i) where
   pub one-more : i < length list → take (i + 1) (set list i (blockOf (handOf (getD box i 0)))) ≡ firstBlocks box (i + 1)

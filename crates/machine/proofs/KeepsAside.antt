@@ -1,5 +1,5 @@
 -- The commands on side queues keep the invariant.
-use mathlib.Core.Bool.{Bool, true, false}
+use mathlib.Core.Bool.{Bool, true, false, not, _&&_}
 use mathlib.Core.Path.{_≡_, refl, sym}
 use Prim.Native.Nat.{ℕ, zero, suc, _-_, _≤_, _<_}
 use native.Mathlib.Omega.{arith}
@@ -37,6 +37,10 @@ unfolding InHand isOpen isTimer IsBlock
 open-block Nothing i on off = no-yes on
 open-block (Block b) i on off = i
 open-block (Timer t g) i on off = no-yes (sym off)
+
+-- where there is an entry to recall, RECALL's test finds a place for it
+pub has-place : (n room : ℕ) → (n ≡ 0 → ⊥) → (not (eqb n 0) && eqb room 0) ≡ false → 0 < room
+has-place n room ne e = let f : eqb room 0 ≡ false = rw (ne-eqb n 0 ne) at e in omega (arith, eqb-false room 0 f)
 
 module _ (s : State) (i : Inv s) where
   -- a block in hand is live
@@ -98,9 +102,7 @@ module _ (s : State) (z : Areas) (i : Inv s) where
   recall-keeps spoilt q p =
       unless-state s z _ Inv i (recallTests spoilt q p s) refl (λ t.
       recallDone-keeps (length (sideOf s q)) q p refl (within-side q (t .1 .0)) (omega (arith, within-low)) (omega (arith, within-high))
-      (λ h.
-      let f : eqb (room s p) 0 ≡ false = rw (ne-eqb (length (sideOf s q)) 0 (λ e. omega arith)) at (t .1 .1 .1 .1 .0) in
-      omega (arith, eqb-false (room s p) 0 f)))
+      (λ h. has-place (length (sideOf s q)) (room s p) (λ e. omega arith) (t .1 .1 .1 .1 .0)))
 
   pub flush-keeps : (spoilt : Bool) (q : ℕ) → Inv (flush spoilt q s z .state)
   unfolding flush flushTests

@@ -34,9 +34,12 @@ blockOf Nothing = 255
 blockOf (Block b) = b
 blockOf (Timer t g) = 255
 
--- The blocks of a list of entries.
+-- The blocks of the first n entries of a list, and of all.
+abbrev pub firstBlocks : List ℕ → ℕ → List ℕ
+firstBlocks l n = tab (λ i. blockOf (handOf (getD l i 0))) n
+
 abbrev pub blocksIn : List ℕ → List ℕ
-blocksIn l = tab (λ i. blockOf (handOf (getD l i 0))) (length l)
+blocksIn l = firstBlocks l (length l)
 
 -- A run begins in a state, and leaves one: all that it does not speak of is as it was.
 abbrev pub begun : State → List ℕ → Run

@@ -5,9 +5,10 @@ use native.Mathlib.Omega.{arith}
 use lib.ListN.{length, length-set, take}
 use Rattle.ground.specs.Range.{tabFrom}
 use Rattle.machine.specs.Numbers.{mostAside}
+use Rattle.machine.specs.Run.{firstBlocks}
 use Rattle.mail.specs.Box.{boxAt}
 use Rattle.mail.specs.View.{boxes, queued-in}
-use Rattle.aside.proofs.Queues.{firstBlocks, one-more, all-listed}
+use Rattle.aside.proofs.Queues.{one-more, all-listed}
 use Rattle.aside.proofs.list_blocks.Statement.{statement}
 use Rattle.aside.proofs.list_blocks.Tie as tie
 
