@@ -31,7 +31,7 @@ use state::is_open;
 use state::refuse;
 
 // The entries of side queue q; 0 where there is no such queue.
-fn aside(k: Kernel, q: usize) -> usize
+fn entries_in(k: Kernel, q: usize) -> usize
     ensures { λ r. ⌜ (r ≡ length (sideOf (stateOf k) q)) × (r < 256) ⌝ }
 {
     let counts = k.side_counts;
@@ -69,7 +69,7 @@ pub fn defer(k: Kernel, spoilt: bool, q: usize) -> Answered
     requires { ⌜ Good k ⌝ }
     ensures { λ r. ⌜ ((z : Areas) → answered r z ≡ machine.defer spoilt q (stateOf k) z) ⌝ }
 {
-    let n = aside(k, q);
+    let n = entries_in(k, q);
     let timer = is_timer(hand_of(k.hand));
     let no = defer_refusal(spoilt, q, is_open(k.hand), timer, n);
     if no != 0 {
@@ -120,7 +120,7 @@ pub fn recall(k: Kernel, spoilt: bool, q: usize, p: usize) -> Answered
     requires { ⌜ Good k ⌝ }
     ensures { λ r. ⌜ ((z : Areas) → answered r z ≡ machine.recall spoilt q p (stateOf k) z) ⌝ }
 {
-    let n = aside(k, q);
+    let n = entries_in(k, q);
     let no = recall_no(k, spoilt, q, p, n);
     if no != 0 {
         return refuse(k, no);
@@ -185,7 +185,7 @@ pub fn flush(k: Kernel, spoilt: bool, q: usize) -> Answered
     if no != 0 {
         return refuse(k, no);
     }
-    let n = aside(k, q);
+    let n = entries_in(k, q);
     Answered {
         kernel: let_go_aside(k, q, n),
         reply: reply::done(n as u8, 0),

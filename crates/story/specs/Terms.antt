@@ -189,7 +189,7 @@ pub record Flushes (h : Story) (c : Call) (q : ℕ) : Type 0 where
   pub empty : side (then h c) q ≡ []
   pub others : OtherSides h c q
   pub mail : kernel (then h c) .boxes ≡ kernel h .boxes
-  pub holds : kernel (then h c) .events ≡ kernel h .events
+  pub events : kernel (then h c) .events ≡ kernel h .events
   pub still : kernel (then h c) .hand ≡ kernel h .hand
   pub fewer : (b : ℕ) → refer (then h c) b + timesIn (entryOf (Block b)) (side h q) ≡ refer h b
   pub entries : value₁ h c ≡ length (side h q)

@@ -19,7 +19,7 @@ tested c =
     ∙ defer-tests (a .spoilt) (a .q) (stateOf (a .k)) _ _ _
     (c .before .is-open .ensures)
     (c .before .before .is-timer .ensures ∙ ap isTimer (c .before .before .before .hand-of .ensures))
-    (c .before .before .before .before .aside .ensures .0)
+    (c .before .before .before .before .entries-in .ensures .0)
 
 returns : tie.Need-returns
 unfolding defer
@@ -36,13 +36,13 @@ unfolding stateOf
 set-aside-requires c κs = let h = may c in (h .side, omega (arith, h .free), h .block)
 
 cast-done : tie.Need-cast-done
-cast-done c = omega (arith, may (c .before) .free, c .before .before .before .before .before .before .aside .ensures .0)
+cast-done c = omega (arith, may (c .before) .free, c .before .before .before .before .before .before .entries-in .ensures .0)
 
 returns-2 : tie.Need-returns-2
 unfolding defer answered stateOf
 returns-2 c = λ z.
     doing _ _ _ _ z _ (tested (c .before .before .before)) (c .before .before .if1 .left)
-    (rw (c .before .set-aside .ensures, c .done .ensures, c .before .before .before .before .before .before .before .aside .ensures .0) refl)
+    (rw (c .before .set-aside .ensures, c .done .ensures, c .before .before .before .before .before .before .before .entries-in .ensures .0) refl)
 
 pub defer-spec : {M : Type 1} → statement M
 defer-spec =

@@ -15,13 +15,13 @@ let-go-aside-requires : tie.Need-let-go-aside-requires
 unfolding flushTests
 let-go-aside-requires c κs =
     let s = c .before .before .before in
-    (s .pre, flush-within (s .args .spoilt) (s .args .q) (sym (c .before .before .flush-refusal .ensures) ∙ c .before .if1 .left), c .aside .ensures .0)
+    (s .pre, flush-within (s .args .spoilt) (s .args .q) (sym (c .before .before .flush-refusal .ensures) ∙ c .before .if1 .left), c .entries-in .ensures .0)
 
 returns-2 : tie.Need-returns-2
 unfolding flush flushTests answered
 returns-2 c = λ z.
     doing _ _ _ _ z _ (c .before .before .before .before .flush-refusal .ensures) (c .before .before .before .if1 .left)
-    (rw (c .before .let-go-aside .ensures, c .done .ensures, c .before .before .aside .ensures .0) refl)
+    (rw (c .before .let-go-aside .ensures, c .done .ensures, c .before .before .entries-in .ensures .0) refl)
 
 pub flush-spec : {M : Type 1} → statement M
 flush-spec =

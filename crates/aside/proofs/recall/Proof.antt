@@ -15,7 +15,7 @@ returns c = λ z. refusal _ _ _ _ z _ (c .before .before .recall-no .ensures) (c
 returns-2 : tie.Need-returns-2
 unfolding recall answered
 returns-2 c = λ z.
-    let n = c .before .before .before .before .aside .ensures .0 in
+    let n = c .before .before .before .before .entries-in .ensures .0 in
     doing _ _ _ _ z _ (c .before .before .before .recall-no .ensures) (c .before .before .if1 .left)
     (rw (c .done .ensures) (sym (recall-none _ _ _ _ z (sym n ∙ c .before .if2 .taken))))
 
@@ -23,14 +23,14 @@ bring-back-requires : tie.Need-bring-back-requires
 bring-back-requires c κs =
     let s = c .before .before .before .before in
     let a = s .args in
-    let n = c .before .before .before .aside .ensures .0 in
+    let n = c .before .before .before .entries-in .ensures .0 in
     let h = recallable (a .k) (a .spoilt) (a .q) (a .p) (sym (c .before .before .recall-no .ensures) ∙ c .before .if1 .left) (s .pre) (λ z. c .if2 .left (n ∙ z)) in
     ((h .side, omega (arith, n, c .if2 .left)), (h .low, h .high, h .free))
 
 returns-3 : tie.Need-returns-3
 unfolding recall answered
 returns-3 c = λ z.
-    let n = c .before .before .before .before .before .aside .ensures .0 in
+    let n = c .before .before .before .before .before .entries-in .ensures .0 in
     doing _ _ _ _ z _ (c .before .before .before .before .recall-no .ensures) (c .before .before .before .if1 .left)
     (rw (c .before .bring-back .ensures, c .done2 .ensures) (sym (recall-some _ _ _ _ z (λ e. c .before .before .if2 .left (n ∙ e)))))
 
