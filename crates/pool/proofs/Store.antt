@@ -1,78 +1,97 @@
--- How the row reads and changes as the two arrays do.
+-- How the row reads and changes as the two arrays and the set of free blocks do.
 use mathlib.Core.Bool.{Bool, true, false}
 use mathlib.Core.List.{List}
 use mathlib.Core.Path.{_≡_, sym, ap, _∙_}
-use Prim.Native.Nat.{ℕ, _<_, _≤_}
+use Prim.Native.Nat.{ℕ, _-_, _<_, _≤_}
 use native.Mathlib.Omega.{arith}
 use lib.ListN.{length, getD, set}
 use lib.Seq.{ext-getD, getD-set-same, getD-set-other, set-out, set-getD}
-use Rattle.ground.specs.Range.{tab}
+use Rattle.bits.specs.Laws.{first-same, put-here, put-other}
+use Rattle.bits.specs.Members.{put}
+use Rattle.ground.specs.Range.{firstFrom, tab}
 use Rattle.ground.specs.Tab.{length-tab, getD-tab, getD-tab-out, tab-set}
-use Rattle.pool.specs.Cell.{Cell, absent}
+use Rattle.pool.specs.Cell.{Cell, live, absent}
 use Rattle.pool.specs.Inside.{cellAt, cellOf, freed, rowOf}
 use Rattle.pool.specs.Promise.{Frees}
-use Rattle.pool.specs.Row.{at, blocks, changed, generationAt}
-use Rattle.pool.proofs.Count.{generation-is}
+use Rattle.pool.specs.Row.{at, blocks, changed, generationAt, lowestFree}
+use Rattle.pool.specs.declared.Span.{Span}
+use Rattle.pool.proofs.Count.{free-is, generation-is, is-live}
 
-module _ (gens counts : List ℕ) (b : ℕ) where
-  pub at-in : b < blocks → at (rowOf gens counts) b ≡ cellAt gens counts b
+module _ (gens counts : List ℕ) (frees : ℕ → Bool) where
+  pub at-in : (b : ℕ) → b < blocks → at (rowOf gens counts frees) b ≡ cellAt gens counts frees b
   unfolding rowOf
-  at-in h = getD-tab (cellAt gens counts) blocks b absent h
+  at-in b h = getD-tab (cellAt gens counts frees) blocks b absent h
 
-  pub at-out : blocks ≤ b → at (rowOf gens counts) b ≡ absent
+  pub at-out : (b : ℕ) → blocks ≤ b → at (rowOf gens counts frees) b ≡ absent
   unfolding rowOf
-  at-out h = getD-tab-out (cellAt gens counts) blocks b absent h
+  at-out b h = getD-tab-out (cellAt gens counts frees) blocks b absent h
 
-  module _ (f : Cell → Cell) where
+  -- the lowest free block is the lowest member of the set
+  pub lowest-free : (pool : Span) → pool .to ≤ blocks → firstFrom frees (pool .from) (pool .to - pool .from) ≡ lowestFree (rowOf gens counts frees) pool
+  unfolding lowestFree
+  lowest-free pool h = first-same frees _ (pool .from) (pool .to - pool .from) (λ j l g. sym (rw (at-in j (omega arith)) (free-is _ _ _)))
+
+  pub generations-are : length gens ≡ blocks → gens ≡ tab (generationAt (rowOf gens counts frees)) blocks
+  unfolding generationAt
+  generations-are l =
+      ext-getD 0 _ _ (l ∙ sym (length-tab (generationAt (rowOf gens counts frees)) blocks)) (λ j h.
+      let k : j < blocks = omega arith in
+      sym (getD-tab (generationAt (rowOf gens counts frees)) blocks j 0 k ∙ rw (at-in j k) (generation-is _ _ _)))
+
+  -- what f makes of block b
+  module _ (b : ℕ) (f : Cell → Cell) where
     -- beyond the last block nothing changes
-    pub changed-out : blocks ≤ b → rowOf gens counts ≡ changed f (rowOf gens counts) b
+    pub changed-out : blocks ≤ b → rowOf gens counts frees ≡ changed f (rowOf gens counts frees) b
     unfolding rowOf
-    changed-out h = sym (set-out (rowOf gens counts) b (f (at (rowOf gens counts) b)) (omega (arith, length-tab (cellAt gens counts) blocks)))
+    changed-out h = sym (set-out (rowOf gens counts frees) b (f (at (rowOf gens counts frees) b)) (omega (arith, length-tab (cellAt gens counts frees) blocks)))
 
-    module _ (h : b < blocks) where
-      pub changed-not : f (cellAt gens counts b) ≡ cellAt gens counts b → rowOf gens counts ≡ changed f (rowOf gens counts) b
-      changed-not e = rw (at-in h, e, ← at-in h) (sym (set-getD (rowOf gens counts) b absent))
+    module _ (h : b < blocks) {c : Cell} (is : cellAt gens counts frees b ≡ c) where
+      pub changed-not : f c ≡ c → rowOf gens counts frees ≡ changed f (rowOf gens counts frees) b
+      changed-not e = rw (at-in b h, is, e, ← is, ← at-in b h) (sym (set-getD (rowOf gens counts frees) b absent))
 
-      -- both arrays have another entry at b
-      pub stored : (gens' counts' : List ℕ) → cellAt gens' counts' b ≡ f (cellAt gens counts b) →
-          ((k : ℕ) → (k ≡ b → ⊥) → cellAt gens' counts' k ≡ cellAt gens counts k) → rowOf gens' counts' ≡ changed f (rowOf gens counts) b
+      stored : (gens' counts' : List ℕ) (frees' : ℕ → Bool) → f c ≡ cellAt gens' counts' frees' b →
+          ((k : ℕ) → (k ≡ b → ⊥) → cellAt gens' counts' frees' k ≡ cellAt gens counts frees k) → rowOf gens' counts' frees' ≡ changed f (rowOf gens counts frees) b
       unfolding rowOf
-      stored gens' counts' here there =
-          tab-set (cellAt gens counts) (cellAt gens' counts') blocks b (f (at (rowOf gens counts) b)) h (here ∙ ap f (sym (at-in h))) (λ k l ne. there k ne)
+      stored gens' counts' frees' here there =
+          tab-set (cellAt gens counts frees) (cellAt gens' counts' frees') blocks b (f (at (rowOf gens counts frees) b)) h (sym (ap f (at-in b h ∙ is) ∙ here)) (λ k l ne. there k ne)
 
-      pub stored-count : (n : ℕ) → length counts ≡ blocks → f (cellAt gens counts b) ≡ cellOf (getD gens b 0) n →
-          rowOf gens (set counts b n) ≡ changed f (rowOf gens counts) b
-      stored-count n l e =
-          stored gens (set counts b n) (rw (getD-set-same counts b n 0 (omega arith)) (sym e)) (λ k ne. rw (getD-set-other counts b k n 0 ne))
+      pub stored-taken : (n : ℕ) (t : Bool) → length counts ≡ blocks → f c ≡ cellOf (getD gens b 0) n t →
+          rowOf gens (set counts b n) (put b t frees) ≡ changed f (rowOf gens counts frees) b
+      stored-taken n t l e =
+          stored gens (set counts b n) (put b t frees)
+          (rw (getD-set-same counts b n 0 (omega arith), put-here) e)
+          (λ k ne. rw (getD-set-other counts b k n 0 ne, put-other b t frees k ne))
 
-      pub stored-both : (g n : ℕ) → length gens ≡ blocks → length counts ≡ blocks → f (cellAt gens counts b) ≡ cellOf g n →
-          rowOf (set gens b g) (set counts b n) ≡ changed f (rowOf gens counts) b
-      stored-both g n k l e =
-          stored (set gens b g) (set counts b n)
-          (rw (getD-set-same gens b g 0 (omega arith), getD-set-same counts b n 0 (omega arith)) (sym e))
-          (λ k ne. rw (getD-set-other gens b k g 0 ne, getD-set-other counts b k n 0 ne))
+      pub stored-freed : (g : ℕ) (t : Bool) → length gens ≡ blocks → f c ≡ cellOf g (getD counts b 0) t →
+          rowOf (set gens b g) counts (put b t frees) ≡ changed f (rowOf gens counts frees) b
+      stored-freed g t l e =
+          stored (set gens b g) counts (put b t frees)
+          (rw (getD-set-same gens b g 0 (omega arith), put-here) e)
+          (λ k ne. rw (getD-set-other gens b k g 0 ne, put-other b t frees k ne))
+
+    -- a live block has another count
+    module _ (h : b < blocks) {r : Bool} (e : r ≡ frees b) (out : r ≡ false) where
+      pub stored-count : (n : ℕ) → length counts ≡ blocks → f (live (getD gens b 0) (getD counts b 0)) ≡ live (getD gens b 0) n →
+          rowOf gens (set counts b n) frees ≡ changed f (rowOf gens counts frees) b
+      stored-count n l to =
+          stored h (is-live _ _ _ e out) gens (set counts b n) frees
+          (rw (getD-set-same counts b n 0 (omega arith)) (to ∙ sym (is-live _ n _ e out)))
+          (λ k ne. rw (getD-set-other counts b k n 0 ne))
 
     -- the same as promises of an operation that may free
     module _ (freeing : Cell → Bool) where
-      pub frees-out : freeing absent ≡ false → blocks ≤ b → Frees f freeing (rowOf gens counts) b (rowOf gens counts) false
-      frees-out e h = record { answer = rw (at-out h) (sym e); row = changed-out h }
+      pub frees-out : freeing absent ≡ false → blocks ≤ b → Frees f freeing (rowOf gens counts frees) b (rowOf gens counts frees) false
+      frees-out e h = record { answer = rw (at-out b h) (sym e); row = changed-out h }
 
-      module _ (h : b < blocks) where
-        pub frees-not : (f (cellAt gens counts b) ≡ cellAt gens counts b) × (freeing (cellAt gens counts b) ≡ false) →
-            Frees f freeing (rowOf gens counts) b (rowOf gens counts) false
-        frees-not e = record { answer = rw (at-in h) (sym (e .1)); row = changed-not h (e .0) }
+      module _ (h : b < blocks) {c : Cell} (is : cellAt gens counts frees b ≡ c) where
+        pub frees-not : (f c ≡ c) × (freeing c ≡ false) → Frees f freeing (rowOf gens counts frees) b (rowOf gens counts frees) false
+        frees-not e = record { answer = rw (at-in b h, is) (sym (e .1)); row = changed-not h is (e .0) }
 
-        pub frees-count : (n : ℕ) → length counts ≡ blocks → (f (cellAt gens counts b) ≡ cellOf (getD gens b 0) n) × (freeing (cellAt gens counts b) ≡ false) →
-            Frees f freeing (rowOf gens counts) b (rowOf gens (set counts b n)) false
-        frees-count n l e = record { answer = rw (at-in h) (sym (e .1)); row = stored-count h n l (e .0) }
+        pub frees-it : (t : List Cell) → t ≡ changed freed (rowOf gens counts frees) b → (freed c ≡ f c) × (freeing c ≡ true) →
+            Frees f freeing (rowOf gens counts frees) b t true
+        frees-it t r e = record { answer = rw (at-in b h, is) (sym (e .1)); row = r ∙ rw (at-in b h, is) (ap (set (rowOf gens counts frees) b) (e .0)) }
 
-        pub frees : (t : List Cell) → t ≡ changed freed (rowOf gens counts) b →
-            (freed (cellAt gens counts b) ≡ f (cellAt gens counts b)) × (freeing (cellAt gens counts b) ≡ true) → Frees f freeing (rowOf gens counts) b t true
-        frees t r e = record { answer = rw (at-in h) (sym (e .1)); row = r ∙ rw (at-in h) (ap (set (rowOf gens counts) b) (e .0)) }
-
-pub generations-are : (gens counts : List ℕ) → length gens ≡ blocks → gens ≡ tab (generationAt (rowOf gens counts)) blocks
-unfolding generationAt
-generations-are gens counts l =
-    ext-getD 0 _ _ (l ∙ sym (length-tab (generationAt (rowOf gens counts)) blocks)) (λ j h.
-    let k : j < blocks = omega arith in
-    sym (getD-tab (generationAt (rowOf gens counts)) blocks j 0 k ∙ rw (at-in gens counts j k) (generation-is _ _)))
+      pub frees-count : b < blocks → {r : Bool} → r ≡ frees b → r ≡ false → (n : ℕ) → length counts ≡ blocks →
+          (f (live (getD gens b 0) (getD counts b 0)) ≡ live (getD gens b 0) n) × (freeing (live (getD gens b 0) (getD counts b 0)) ≡ false) →
+          Frees f freeing (rowOf gens counts frees) b (rowOf gens (set counts b n) frees) false
+      frees-count h e out n l to = record { answer = rw (at-in b h, is-live _ _ _ e out) (sym (to .1)); row = stored-count h e out n l (to .0) }

@@ -1,26 +1,28 @@
--- How a pool's two arrays stand for a row. For this crate's proofs alone: no other crate names this file.
+-- How a pool's two arrays and its set of free blocks stand for a row. For this crate's proofs alone: no other crate names this file.
+use mathlib.Core.Bool.{Bool, true, false}
 use mathlib.Core.List.{List}
 use mathlib.Core.Path.{_≡_}
-use Prim.Native.Nat.{ℕ, zero, suc}
+use Prim.Native.Nat.{ℕ}
 use lib.ListN.{length, getD}
+use Rattle.bits.specs.Members.{members}
 use Rattle.ground.specs.Range.{tab}
 use Rattle.pool.specs.Cell.{Cell, free, live, generationOf, nextGeneration}
 use Rattle.pool.specs.Row.{blocks}
 use Rattle.pool.specs.declared.Pool.{Pool}
 
--- A count of 0 is a free block, one of n + 1 a live block with n references.
-unfoldable pub cellOf : ℕ → ℕ → Cell
-cellOf g zero = free g
-cellOf g (suc n) = live g n
+-- A block that is in the set is free, any other is live with its count of references.
+unfoldable pub cellOf : ℕ → ℕ → Bool → Cell
+cellOf g n true = free g
+cellOf g n false = live g n
 
-abbrev pub cellAt : List ℕ → List ℕ → ℕ → Cell
-cellAt gens counts b = cellOf (getD gens b 0) (getD counts b 0)
+abbrev pub cellAt : List ℕ → List ℕ → (ℕ → Bool) → ℕ → Cell
+cellAt gens counts frees b = cellOf (getD gens b 0) (getD counts b 0) (frees b)
 
-unfoldable pub rowOf : List ℕ → List ℕ → List Cell
-rowOf gens counts = tab (cellAt gens counts) blocks
+unfoldable pub rowOf : List ℕ → List ℕ → (ℕ → Bool) → List Cell
+rowOf gens counts frees = tab (cellAt gens counts frees) blocks
 
 unfoldable pub cells : Pool → List Cell
-cells p = rowOf (p .gens) (p .counts)
+cells p = rowOf (p .gens) (p .counts) (members (p .free))
 
 -- What freeing makes of any block.
 unfoldable pub freed : Cell → Cell

@@ -1,13 +1,19 @@
-// The block pool: 56 blocks in three pools, each with a generation and a count of references. What stands above relies on the promises
-// alone, which speak of `cells p`, the row of blocks that a pool stands for.
+// The block pool: 56 blocks in three pools, each with a generation and a count of references, and the set of those that are free. What
+// stands above relies on the promises alone, which speak of `cells p`, the row of blocks that a pool stands for.
 ghost use mathlib.Core.Path.{_≡_};
 ghost use mathlib.Core.List.{List};
-ghost use Prim.Native.Nat.{ℕ, _-_, _<_, _≤_};
-ghost use Rattle.ground.specs.Range.{firstFrom, tab};
-ghost use Rattle.pool.specs.Cell.{isFree, isNew, atLast, nextGeneration, more, fewer, dropped};
+ghost use Prim.Native.Nat.{ℕ, _<_};
+ghost use lib.ListN.{length};
+ghost use Rattle.bits.specs.Members.{members};
+ghost use Rattle.ground.specs.Range.{tab};
+ghost use Rattle.pool.specs.Cell.{isNew, atLast, nextGeneration, more, fewer, dropped};
 ghost use Rattle.pool.specs.Inside.{cells, freed, rowOf, Sized};
 ghost use Rattle.pool.specs.Promise.{Takes, Frees};
-ghost use Rattle.pool.specs.Row.{at, changed, freshRow, generationAt, staleAt, poolFor, goneAll, blocks};
+ghost use Rattle.pool.specs.Row.{changed, freshRow, generationAt, staleAt, poolFor, goneAll, blocks};
+use bits::has;
+use bits::lowest;
+use bits::with;
+use bits::without;
 use ground::wide;
 use numbers::BLOCKS;
 use numbers::LARGE;
@@ -18,19 +24,22 @@ use numbers::SMALL_BYTES;
 
 const LAST_GENERATION: u8 = 255;
 
-// What a block's count says: free, live without a reference, live with one. Each further reference is one more.
-const FREE: u16 = 0;
+// What a live block's count of references says: none yet, the last one, as many as are counted.
+const NEW: u16 = 0;
 
-const NEW: u16 = 1;
+const LAST: u16 = 1;
 
-const LAST: u16 = 2;
+const MOST: u16 = 65534;
 
-const MOST: u16 = 65535;
+// The set of all blocks.
+const ALL: u64 = 0xff_ffff_ffff_ffff;
 
+// The set alone says which blocks are free; the count of a free block says nothing.
 #[repr(C)]
 pub struct Pool {
     gens: [u8; BLOCKS],
     counts: [u16; BLOCKS],
+    free: u64,
 }
 
 // The blocks from `from` up to, not including, `to`.
@@ -60,7 +69,8 @@ pub fn fresh() -> Pool
 {
     Pool {
         gens: [0u8; BLOCKS],
-        counts: [FREE; BLOCKS],
+        counts: [NEW; BLOCKS],
+        free: ALL,
     }
 }
 
@@ -92,21 +102,6 @@ fn pool_for(size: usize) -> Span
     }
 }
 
-// The lowest free block from `from` up to `to`, or `to` where none is. The generations have no part in it.
-fn lowest(counts: &[u16; BLOCKS], from: usize, to: usize) -> usize
-    requires { ⌜ to ≤ blocks ⌝ }
-    ensures { λ r. ⌜ ((gens : List ℕ) → r ≡ firstFrom (λ b. isFree (at (rowOf gens (now (counts .entry))) b)) from (to - from)) ⌝ }
-{
-    let mut b = from;
-    while b < to {
-        if counts[b] == FREE {
-            return b;
-        }
-        b += 1;
-    }
-    b
-}
-
 // The lowest free block of the first pool that is large enough is handed out: live, with no reference.
 pub fn take(p: Pool, size: usize) -> Taken
     ensures { λ r. ⌜ Takes (cells p) size (cells (r .pool)) (r .found) ⌝ }
@@ -115,7 +110,7 @@ pub fn take(p: Pool, size: usize) -> Taken
     let from = span.from;
     let to = span.to;
     let mut q = p;
-    let b = lowest(&q.counts, from, to);
+    let b = lowest(q.free, from, to);
     if to <= b {
         return Taken {
             pool: q,
@@ -123,6 +118,7 @@ pub fn take(p: Pool, size: usize) -> Taken
         };
     }
     q.counts[b] = NEW;
+    q.free = without(q.free, b);
     Taken {
         pool: q,
         found: Found::At(b),
@@ -137,10 +133,10 @@ pub fn add(p: Pool, b: usize) -> Pool
     if BLOCKS <= b {
         return q;
     }
-    let n = q.counts[b];
-    if n == FREE {
+    if has(q.free, b) {
         return q;
     }
+    let n = q.counts[b];
     if MOST <= n {
         return q;
     }
@@ -154,31 +150,36 @@ fn next_generation(g: u8) -> u8
     if g == LAST_GENERATION { 0 } else { g + 1 }
 }
 
-// Block b is free, one generation on.
-fn set_free(gens: &mut [u8; BLOCKS], counts: &mut [u16; BLOCKS], b: usize)
-    requires { ⌜ Sized (now gens) (now counts) × (b < blocks) ⌝ }
-    ensures { λ _. ⌜ rowOf (now (gens .exit)) (now (counts .exit)) ≡ changed freed (rowOf (now (gens .entry)) (now (counts .entry))) b ⌝ }
-    ensures { λ _. ⌜ Sized (now (gens .exit)) (now (counts .exit)) ⌝ }
+// Block b is free, one generation on. The counts have no part in it.
+fn set_free(gens: &mut [u8; BLOCKS], free: &mut u64, b: usize)
+    requires { ⌜ (length (now gens) ≡ blocks) × (b < blocks) ⌝ }
+    ensures { λ _. ⌜ ((counts : List ℕ) →
+        rowOf (now (gens .exit)) counts (members (now (free .exit))) ≡ changed freed (rowOf (now (gens .entry)) counts (members (now (free .entry)))) b) ⌝ }
+    ensures { λ _. ⌜ length (now (gens .exit)) ≡ blocks ⌝ }
 {
     gens[b] = next_generation(gens[b]);
-    counts[b] = FREE;
+    *free = with(*free, b);
 }
 
-// One reference fewer in the arrays of a pool; the last one frees the block.
-fn let_go_in(gens: &mut [u8; BLOCKS], counts: &mut [u16; BLOCKS], b: usize) -> bool
+// One reference fewer in the parts of a pool; the last one frees the block.
+fn let_go_in(gens: &mut [u8; BLOCKS], counts: &mut [u16; BLOCKS], free: &mut u64, b: usize) -> bool
     requires { ⌜ Sized (now gens) (now counts) ⌝ }
-    ensures { λ r. ⌜ Frees fewer atLast (rowOf (now (gens .entry)) (now (counts .entry))) b (rowOf (now (gens .exit)) (now (counts .exit))) r ⌝ }
+    ensures { λ r. ⌜ Frees fewer atLast (rowOf (now (gens .entry)) (now (counts .entry)) (members (now (free .entry)))) b
+        (rowOf (now (gens .exit)) (now (counts .exit)) (members (now (free .exit)))) r ⌝ }
     ensures { λ _. ⌜ Sized (now (gens .exit)) (now (counts .exit)) ⌝ }
 {
     if BLOCKS <= b {
         return false;
     }
+    if has(*free, b) {
+        return false;
+    }
     let n = counts[b];
-    if n < LAST {
+    if n == NEW {
         return false;
     }
     if n == LAST {
-        set_free(gens, counts, b);
+        set_free(gens, free, b);
         return true;
     }
     counts[b] = n - 1;
@@ -191,9 +192,10 @@ pub fn let_go(p: Pool, b: usize) -> Gone
 {
     let mut gens = p.gens;
     let mut counts = p.counts;
-    let freed = let_go_in(&mut gens, &mut counts, b);
+    let mut free = p.free;
+    let freed = let_go_in(&mut gens, &mut counts, &mut free, b);
     Gone {
-        pool: Pool { gens, counts },
+        pool: Pool { gens, counts, free },
         freed: freed,
     }
 }
@@ -204,12 +206,13 @@ pub fn let_go_all(p: Pool, list: &[u8]) -> Pool
 {
     let mut gens = p.gens;
     let mut counts = p.counts;
+    let mut free = p.free;
     let mut i = 0;
     while i < list.len() {
-        let_go_in(&mut gens, &mut counts, wide(list[i]));
+        let_go_in(&mut gens, &mut counts, &mut free, wide(list[i]));
         i += 1;
     }
-    Pool { gens, counts }
+    Pool { gens, counts, free }
 }
 
 // A block that has no reference yet is freed.
@@ -222,12 +225,19 @@ pub fn drop_new(p: Pool, b: usize) -> Gone
             freed: false,
         };
     }
+    if has(p.free, b) {
+        return Gone {
+            pool: p,
+            freed: false,
+        };
+    }
     if p.counts[b] == NEW {
         let mut gens = p.gens;
-        let mut counts = p.counts;
-        set_free(&mut gens, &mut counts, b);
+        let counts = p.counts;
+        let mut free = p.free;
+        set_free(&mut gens, &mut free, b);
         return Gone {
-            pool: Pool { gens, counts },
+            pool: Pool { gens, counts, free },
             freed: true,
         };
     }
@@ -261,7 +271,7 @@ pub fn stale(p: Pool, b: usize, g: u8) -> bool
     if BLOCKS <= b {
         return true;
     }
-    if p.counts[b] == FREE {
+    if has(p.free, b) {
         return true;
     }
     p.gens[b] != g

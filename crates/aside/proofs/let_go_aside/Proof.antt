@@ -15,6 +15,16 @@ list-blocks-requires c κs =
       (omega (arith, s .pre .1, side-rings (a .k) _ (s .good .0)), s .pre .2 ∙ aside-is (a .k) (a .q), omega (arith, s .pre .2, s .pre .0 .aside .room (a .q))),
     )
 
+slice-aggregate-empty : tie.Need-slice-aggregate-empty
+slice-aggregate-empty c =
+    let s = c .before .before .before .before .before .before .before .before .before in
+    search (needs, side-rings (s .args .k) _ (s .good .0))
+
+empty-requires : tie.Need-empty-requires
+empty-requires c κs =
+    let s = c .before .before .before .before .before .before .before .before .before in
+    omega (arith, s .pre .1, side-rings (s .args .k) _ (s .good .0))
+
 part-let-go-all-end : tie.Need-part-let-go-all-end
 part-let-go-all-end c =
     let s = c .before .before .before .before .before .before .before .before .before .before .before .before in
@@ -31,5 +41,5 @@ returns c =
 pub let-go-aside-spec : {M : Type 1} → statement M
 let-go-aside-spec =
     tie.close
-    (tie.spec (λ c. search needs) (λ c. search needs) (λ c. search needs) list-blocks-requires (λ c. search needs) (λ c κs. search needs) (λ c. search needs) (λ c. search needs)
+    (tie.spec (λ c. search needs) (λ c. search needs) (λ c. search needs) list-blocks-requires slice-aggregate-empty empty-requires (λ c. search needs) (λ c. search needs)
     part-let-go-all-end (λ c κs. search needs) returns)
