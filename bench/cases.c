@@ -25,7 +25,7 @@ const struct bench_case cases[] = {
     {.name = "NEW, 64 bytes", .call = COMMAND, .prepare = all_started,
      .record = {TRUNHOAC_NEW, MOVES, 64, [PAYLOAD] = SIXTEEN_BYTES, SIXTEEN_BYTES, SIXTEEN_BYTES, SIXTEEN_BYTES},
      .expected = {.reply = {[VALUES] = 48, 0}}},
-    {.name = "NEW, 16 bytes, the last of 32 blocks", .call = COMMAND, .prepare = one_block_of_16_left,
+    {.name = "NEW, 16 bytes, 31 other blocks taken", .call = COMMAND, .prepare = one_block_of_16_left,
      .record = {TRUNHOAC_NEW, MOVES, 16, [PAYLOAD] = SIXTEEN_BYTES}, .expected = {.reply = {[VALUES] = 31, 0}}},
 
     {.name = "POST", .call = COMMAND, .prepare = event_at_nine,
@@ -53,6 +53,8 @@ const struct bench_case cases[] = {
      .record = {TRUNHOAC_RELEASE, 0, 0}, .expected = {.reply = {[VALUES] = 0, 1}}},
     {.name = "DROP", .call = COMMAND, .prepare = event_made,
      .record = {TRUNHOAC_DROP, 0, 0}, .expected = {.reply = {0}}},
+    {.name = "DROP, 31 other blocks taken", .call = COMMAND, .prepare = no_block_of_16_left,
+     .record = {TRUNHOAC_DROP, 31, 0}, .expected = {.reply = {0}}},
 
     /* Outcome 2 and signal 6 are 70; the four actions are the paper's "2 by 6". */
     {.name = "NEXT, mail at object 16", .call = COMMAND, .prepare = event_at_sixteen,

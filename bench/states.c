@@ -115,6 +115,12 @@ void one_block_of_16_left(struct state *state)
         make(state, MOVES, 16);
 }
 
+void no_block_of_16_left(struct state *state)
+{
+    one_block_of_16_left(state);
+    make(state, MOVES, 16);
+}
+
 void event_made(struct state *state)
 {
     all_started(state);

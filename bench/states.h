@@ -34,6 +34,7 @@ void shift_chart_loaded(struct state *state, const struct chart *shift);
 void all_started(struct state *state);
 void all_but_nine_started(struct state *state);
 void one_block_of_16_left(struct state *state);
+void no_block_of_16_left(struct state *state);
 
 /* One event that moves, in block 0, with no reference. */
 void event_made(struct state *state);

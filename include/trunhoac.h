@@ -29,7 +29,7 @@ extern "C" {
 
 /* The kernel's memory, of this size and alignment. What it holds is the kernel's own. */
 struct trunhoac_kernel {
-    uint16_t memory[907];
+    uint64_t memory[228];
 };
 
 /* The lengths of a record, of a reply and of the three areas that the host lends. */

@@ -32,10 +32,10 @@ const FIRST_TIMER: u8 = 128;
 #[repr(C)]
 #[derive(Clone)]
 struct Memory {
-    words: [u16; 907],
+    words: [u64; 228],
 }
 
-const _: () = assert!(size_of::<Memory>() == 1_814 && align_of::<Memory>() == 2);
+const _: () = assert!(size_of::<Memory>() == 1_824 && align_of::<Memory>() == 8);
 
 /// The library's calls.
 mod library {
@@ -394,7 +394,7 @@ impl Kernel {
     /// A fresh kernel.
     pub fn fresh() -> Kernel {
         let mut parts = Box::new(Parts {
-            memory: Memory { words: [0; 907] },
+            memory: Memory { words: [0; 228] },
             payloads: [0; PAYLOAD_AREA],
             tables: [0; TABLE_AREA],
             log: [[0; REPLY_BYTES]; LOG_LINES],

@@ -9,7 +9,8 @@ enum { BLOCKS = 56, OBJECTS = 16, PLACES = 16, SIDES = 8, SIGNAL_PLACES = 32, SL
 
 struct pool {
     uint8_t gens[BLOCKS];
-    uint16_t counts[BLOCKS]; /* 0 free, 1 without a reference, and one more for each reference */
+    uint16_t counts[BLOCKS]; /* of a live block: its references */
+    uint64_t free;           /* the digit of each block that is free */
 };
 
 struct kernel {
@@ -45,9 +46,17 @@ static const struct trunhoac_handle last_block = {BLOCKS - 1, 0};
 static uint8_t record[TRUNHOAC_RECORD_BYTES];
 static struct kernel k; /* as the library left it */
 
+/* Up to the end of its last field; what lies behind that is a gap, and nobody's. */
+enum { KERNEL_BYTES = offsetof(struct kernel, hand) + sizeof k.hand };
+
 static void take_kernel(void)
 {
     memcpy(&k, lent_kernel(), sizeof k);
+}
+
+static bool is_free(unsigned block)
+{
+    return k.pool.free >> block & 1;
 }
 
 static void done(const uint8_t *filled)
@@ -62,7 +71,8 @@ static void test_fresh(void)
     lend_fresh(FILL);
     take_kernel();
     lend_fresh(FILL / 2);
-    expect(memcmp(&k, lent_kernel(), sizeof k) == 0, "a fresh start writes every byte");
+    expect(memcmp(&k, lent_kernel(), KERNEL_BYTES) == 0, "a fresh start writes every byte");
+    expect(k.pool.free == ((uint64_t)1 << BLOCKS) - 1, "every block is free");
 }
 
 static void test_blocks(void)
@@ -75,18 +85,19 @@ static void test_blocks(void)
         done(trunhoac_fill_new(record, 31, payload, sizeof payload));
     expect(k.signals[0] == 4 && k.signals[BLOCKS - 1] == 31, "signals");
     expect(k.sizes[0] == 16 && k.sizes[BLOCKS - 1] == 64, "sizes");
-    expect(k.pool.counts[0] == 1 && k.pool.counts[BLOCKS - 1] == 1, "new blocks");
+    expect(k.pool.counts[0] == 0 && k.pool.counts[BLOCKS - 1] == 0, "new blocks");
+    expect(!is_free(0) && is_free(1) && is_free(47) && !is_free(48) && !is_free(BLOCKS - 1), "blocks that are no longer free");
 
     done(trunhoac_fill_hold(record, first_block));
     done(trunhoac_fill_hold(record, last_block));
     done(trunhoac_fill_hold(record, last_block));
     expect(k.holds[0] == 1 && k.holds[BLOCKS - 1] == 2, "holds");
-    expect(k.pool.counts[0] == 2 && k.pool.counts[BLOCKS - 1] == 3, "references");
+    expect(k.pool.counts[0] == 1 && k.pool.counts[BLOCKS - 1] == 2, "references");
 
     done(trunhoac_fill_release(record, first_block));
     done(trunhoac_fill_release(record, last_block));
     expect(k.pool.gens[0] == 1 && k.pool.gens[BLOCKS - 1] == 0, "generations");
-    expect(k.pool.counts[0] == 0 && k.pool.counts[BLOCKS - 1] == 2, "a block that is free, and one that is not");
+    expect(is_free(0) && !is_free(BLOCKS - 1) && k.pool.counts[BLOCKS - 1] == 1, "a block that is free, and one that is not");
 }
 
 /* A fresh kernel with the objects 1 and 16 on the charts of the slots 0 and 3. */
@@ -159,7 +170,7 @@ static void test_side_queues(void)
     done(trunhoac_fill_defer(record, 0));
     done(trunhoac_fill_defer(record, SIDES - 1));
     expect(k.hand == 1, "the block is still in hand");
-    expect(k.pool.counts[0] == 5, "at object 1, in hand, and set aside twice");
+    expect(k.pool.counts[0] == 4, "at object 1, in hand, and set aside twice");
     done(trunhoac_fill_end(record));
     done(trunhoac_fill_next(record));
     done(trunhoac_fill_defer(record, SIDES - 1));
@@ -171,10 +182,10 @@ static void test_side_queues(void)
     done(trunhoac_fill_recall(record, SIDES - 1, OBJECTS));
     expect(k.side_heads[SIDES - 1] == (head + 1) % PLACES && k.side_counts[SIDES - 1] == 1, "the oldest has left");
     expect(entry(OBJECTS - 1, 0) == 1, "and is at the front of the last mailbox");
-    expect(k.pool.counts[0] == 4, "which changes no count");
+    expect(k.pool.counts[0] == 3, "which changes no count");
     done(trunhoac_fill_flush(record, SIDES - 1));
     expect(k.side_counts[SIDES - 1] == 0 && k.side_counts[0] == 1, "one side queue is empty, the other is as it was");
-    expect(k.pool.counts[1] == 2, "the second block is in hand alone");
+    expect(k.pool.counts[1] == 1, "the second block is in hand alone");
 }
 
 static void test_timers(void)

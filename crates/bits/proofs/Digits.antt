@@ -1,9 +1,8 @@
 -- The members of a word that was joined with another, and of one that has one digit alone.
 use mathlib.Core.Bool.{Bool, true, false, cond, xor, _||_}
-use mathlib.Core.Path.{_≡_, refl, sym, ap, _∙_, fun-ext}
+use mathlib.Core.Path.{_≡_, refl, sym, _∙_, fun-ext}
 use Prim.Native.Nat.{ℕ, zero, suc, _+_, _*_, _/_, _%_, _^_, _<_}
 use native.Mathlib.Nat.{mod-lt, div-one, zero-div}
-use native.Mathlib.Numerals.{add-one}
 use native.Mathlib.Omega.{arith}
 use lib.Bits.{bitOr, bitXor, or-shr, or-mod, xor-shr, xor-mod, shifted-half, shifted-even}
 use lib.Dec.{eqb, eqb·suc-zero, eqb·zero-suc, eqb·suc-suc}

@@ -1,3 +1,5 @@
--- Digits: the members of what each operation makes. Searches: what the counts of a word's digits find.
+-- Digits: the members of what an operation makes. Ranges, Last: what counts of digits find. Bounds: that they are small.
+pub mod Bounds
 pub mod Digits
-pub mod Searches
+pub mod Last
+pub mod Ranges

@@ -2,6 +2,7 @@
 ghost use mathlib.Core.Bool.{true, false};
 ghost use mathlib.Core.Path.{_≡_};
 ghost use Prim.Native.Nat.{_-_, _<_, _≤_};
+ghost use Rattle.bits.specs.Inside.{movedUp};
 ghost use Rattle.bits.specs.Members.{members, put, lastBelow, countFrom, width};
 ghost use Rattle.ground.specs.Range.{firstFrom};
 
@@ -32,6 +33,14 @@ pub fn without(w: u64, i: usize) -> u64
     (w | only) ^ only
 }
 
+// The members from `from` up to, not including, `to` alone, moved up so that the range ends with the word.
+fn range(w: u64, from: usize, to: usize) -> u64
+    requires { ⌜ (from < to) × (to ≤ width) ⌝ }
+    ensures { λ r. ⌜ r ≡ movedUp w from to ⌝ }
+{
+    (w >> from) << (WIDTH - (to - from))
+}
+
 // The lowest member from `from` up to, not including, `to`; `to` where there is none, or `from` if that is larger.
 pub fn lowest(w: u64, from: usize, to: usize) -> usize
     requires { ⌜ to ≤ width ⌝ }
@@ -40,9 +49,8 @@ pub fn lowest(w: u64, from: usize, to: usize) -> usize
     if to <= from {
         return from;
     }
-    // the range alone, moved up to the end of the word: its lowest is as far from `to` as this one's is from there
-    let range = (w >> from) << (WIDTH - (to - from));
-    to - (WIDTH - (u64::trailing_zeros(range) as usize))
+    // as far below `to` as that of the range is below the end of the word
+    to - (WIDTH - (u64::trailing_zeros(range(w, from, to)) as usize))
 }
 
 // One more than the highest member, 0 where there is none.
@@ -60,6 +68,5 @@ pub fn count(w: u64, from: usize, to: usize) -> usize
     if to <= from {
         return 0;
     }
-    let range = (w >> from) << (WIDTH - (to - from));
-    u64::count_ones(range) as usize
+    u64::count_ones(range(w, from, to)) as usize
 }

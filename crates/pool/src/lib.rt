@@ -10,10 +10,6 @@ ghost use Rattle.pool.specs.Cell.{isNew, atLast, nextGeneration, more, f
 ghost use Rattle.pool.specs.Inside.{cells, freed, rowOf, Sized};
 ghost use Rattle.pool.specs.Promise.{Takes, Frees};
 ghost use Rattle.pool.specs.Row.{changed, freshRow, generationAt, staleAt, poolFor, goneAll, blocks};
-use bits::has;
-use bits::lowest;
-use bits::with;
-use bits::without;
 use ground::wide;
 use numbers::BLOCKS;
 use numbers::LARGE;
@@ -32,7 +28,7 @@ const LAST: u16 = 1;
 const MOST: u16 = 65534;
 
 // The set of all blocks.
-const ALL: u64 = 0xff_ffff_ffff_ffff;
+const ALL: u64 = (1u64 << BLOCKS) - 1;
 
 // The set alone says which blocks are free; the count of a free block says nothing.
 #[repr(C)]
@@ -110,7 +106,7 @@ pub fn take(p: Pool, size: usize) -> Taken
     let from = span.from;
     let to = span.to;
     let mut q = p;
-    let b = lowest(q.free, from, to);
+    let b = bits::lowest(q.free, from, to);
     if to <= b {
         return Taken {
             pool: q,
@@ -118,7 +114,7 @@ pub fn take(p: Pool, size: usize) -> Taken
         };
     }
     q.counts[b] = NEW;
-    q.free = without(q.free, b);
+    q.free = bits::without(q.free, b);
     Taken {
         pool: q,
         found: Found::At(b),
@@ -133,7 +129,7 @@ pub fn add(p: Pool, b: usize) -> Pool
     if BLOCKS <= b {
         return q;
     }
-    if has(q.free, b) {
+    if bits::has(q.free, b) {
         return q;
     }
     let n = q.counts[b];
@@ -158,7 +154,7 @@ fn set_free(gens: &mut [u8; BLOCKS], free: &mut u64, b: usize)
     ensures { λ _. ⌜ length (now (gens .exit)) ≡ blocks ⌝ }
 {
     gens[b] = next_generation(gens[b]);
-    *free = with(*free, b);
+    *free = bits::with(*free, b);
 }
 
 // One reference fewer in the parts of a pool; the last one frees the block.
@@ -171,7 +167,7 @@ fn let_go_in(gens: &mut [u8; BLOCKS], counts: &mut [u16; BLOCKS], free: &mut u64
     if BLOCKS <= b {
         return false;
     }
-    if has(*free, b) {
+    if bits::has(*free, b) {
         return false;
     }
     let n = counts[b];
@@ -225,7 +221,7 @@ pub fn drop_new(p: Pool, b: usize) -> Gone
             freed: false,
         };
     }
-    if has(p.free, b) {
+    if bits::has(p.free, b) {
         return Gone {
             pool: p,
             freed: false,
@@ -271,7 +267,7 @@ pub fn stale(p: Pool, b: usize, g: u8) -> bool
     if BLOCKS <= b {
         return true;
     }
-    if has(p.free, b) {
+    if bits::has(p.free, b) {
         return true;
     }
     p.gens[b] != g

@@ -1,4 +1,5 @@
-use Rattle.bits.proofs.Searches.{count-needs, highest-is}
+use Rattle.bits.proofs.Bounds.{count-needs}
+use Rattle.bits.proofs.Last.{highest-is}
 use Rattle.bits.proofs.highest.Statement.{statement}
 use Rattle.bits.proofs.highest.Tie as tie
 
