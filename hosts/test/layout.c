@@ -8,9 +8,9 @@
 enum { BLOCKS = 56, OBJECTS = 16, PLACES = 16, SIDES = 8, SIGNAL_PLACES = 32, SLOTS = 4, TIMERS = 16 };
 
 struct pool {
+    uint64_t free; /* the digit of each block that is free */
     uint8_t gens[BLOCKS];
     uint16_t counts[BLOCKS]; /* of a live block: its references */
-    uint64_t free;           /* the digit of each block that is free */
 };
 
 struct kernel {

@@ -33,9 +33,9 @@ const ALL: u64 = (1u64 << BLOCKS) - 1;
 // The set alone says which blocks are free; the count of a free block says nothing.
 #[repr(C)]
 pub struct Pool {
+    free: u64,
     gens: [u8; BLOCKS],
     counts: [u16; BLOCKS],
-    free: u64,
 }
 
 // The blocks from `from` up to, not including, `to`.
@@ -64,9 +64,9 @@ pub fn fresh() -> Pool
     ensures { λ r. ⌜ cells r ≡ freshRow ⌝ }
 {
     Pool {
+        free: ALL,
         gens: [0u8; BLOCKS],
         counts: [NEW; BLOCKS],
-        free: ALL,
     }
 }
 
@@ -191,7 +191,7 @@ pub fn let_go(p: Pool, b: usize) -> Gone
     let mut free = p.free;
     let freed = let_go_in(&mut gens, &mut counts, &mut free, b);
     Gone {
-        pool: Pool { gens, counts, free },
+        pool: Pool { free, gens, counts },
         freed: freed,
     }
 }
@@ -208,7 +208,7 @@ pub fn let_go_all(p: Pool, list: &[u8]) -> Pool
         let_go_in(&mut gens, &mut counts, &mut free, wide(list[i]));
         i += 1;
     }
-    Pool { gens, counts, free }
+    Pool { free, gens, counts }
 }
 
 // A block that has no reference yet is freed.
@@ -233,7 +233,7 @@ pub fn drop_new(p: Pool, b: usize) -> Gone
         let mut free = p.free;
         set_free(&mut gens, &mut free, b);
         return Gone {
-            pool: Pool { gens, counts, free },
+            pool: Pool { free, gens, counts },
             freed: true,
         };
     }
