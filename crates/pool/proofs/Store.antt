@@ -18,52 +18,58 @@ use Rattle.pool.specs.declared.Span.{Span}
 use Rattle.pool.proofs.Count.{free-is, generation-is, is-live}
 
 module _ (gens counts : List ℕ) (frees : ℕ → Bool) where
-  pub at-in : (b : ℕ) → b < blocks → at (rowOf gens counts frees) b ≡ cellAt gens counts frees b
-  unfolding rowOf
-  at-in b h = getD-tab (cellAt gens counts frees) blocks b absent h
+  abbrev cell : ℕ → Cell
+  cell = cellAt gens counts frees
 
-  pub at-out : (b : ℕ) → blocks ≤ b → at (rowOf gens counts frees) b ≡ absent
+  abbrev row : List Cell
+  row = rowOf gens counts frees
+
+  pub at-in : (b : ℕ) → b < blocks → at row b ≡ cell b
   unfolding rowOf
-  at-out b h = getD-tab-out (cellAt gens counts frees) blocks b absent h
+  at-in b h = getD-tab cell blocks b absent h
+
+  pub at-out : (b : ℕ) → blocks ≤ b → at row b ≡ absent
+  unfolding rowOf
+  at-out b h = getD-tab-out cell blocks b absent h
 
   -- the lowest free block is the lowest member of the set
-  pub lowest-free : (pool : Span) → pool .to ≤ blocks → firstFrom frees (pool .from) (pool .to - pool .from) ≡ lowestFree (rowOf gens counts frees) pool
+  pub lowest-free : (pool : Span) → pool .to ≤ blocks → firstFrom frees (pool .from) (pool .to - pool .from) ≡ lowestFree row pool
   unfolding lowestFree
   lowest-free pool h = first-same frees _ (pool .from) (pool .to - pool .from) (λ j l g. sym (rw (at-in j (omega arith)) (free-is _ _ _)))
 
-  pub generations-are : length gens ≡ blocks → gens ≡ tab (generationAt (rowOf gens counts frees)) blocks
+  pub generations-are : length gens ≡ blocks → gens ≡ tab (generationAt row) blocks
   unfolding generationAt
   generations-are l =
-      ext-getD 0 _ _ (l ∙ sym (length-tab (generationAt (rowOf gens counts frees)) blocks)) (λ j h.
+      ext-getD 0 _ _ (l ∙ sym (length-tab (generationAt row) blocks)) (λ j h.
       let k : j < blocks = omega arith in
-      sym (getD-tab (generationAt (rowOf gens counts frees)) blocks j 0 k ∙ rw (at-in j k) (generation-is _ _ _)))
+      sym (getD-tab (generationAt row) blocks j 0 k ∙ rw (at-in j k) (generation-is _ _ _)))
 
   -- what f makes of block b
   module _ (b : ℕ) (f : Cell → Cell) where
     -- beyond the last block nothing changes
-    pub changed-out : blocks ≤ b → rowOf gens counts frees ≡ changed f (rowOf gens counts frees) b
+    pub changed-out : blocks ≤ b → row ≡ changed f row b
     unfolding rowOf
-    changed-out h = sym (set-out (rowOf gens counts frees) b (f (at (rowOf gens counts frees) b)) (omega (arith, length-tab (cellAt gens counts frees) blocks)))
+    changed-out h = sym (set-out row b (f (at row b)) (omega (arith, length-tab cell blocks)))
 
-    module _ (h : b < blocks) {c : Cell} (is : cellAt gens counts frees b ≡ c) where
-      pub changed-not : f c ≡ c → rowOf gens counts frees ≡ changed f (rowOf gens counts frees) b
-      changed-not e = rw (at-in b h, is, e, ← is, ← at-in b h) (sym (set-getD (rowOf gens counts frees) b absent))
+    module _ (h : b < blocks) {c : Cell} (is : cell b ≡ c) where
+      pub changed-not : f c ≡ c → row ≡ changed f row b
+      changed-not e = rw (at-in b h, is, e, ← is, ← at-in b h) (sym (set-getD row b absent))
 
       stored : (gens' counts' : List ℕ) (frees' : ℕ → Bool) → f c ≡ cellAt gens' counts' frees' b →
-          ((k : ℕ) → (k ≡ b → ⊥) → cellAt gens' counts' frees' k ≡ cellAt gens counts frees k) → rowOf gens' counts' frees' ≡ changed f (rowOf gens counts frees) b
+          ((k : ℕ) → (k ≡ b → ⊥) → cellAt gens' counts' frees' k ≡ cell k) → rowOf gens' counts' frees' ≡ changed f row b
       unfolding rowOf
       stored gens' counts' frees' here there =
-          tab-set (cellAt gens counts frees) (cellAt gens' counts' frees') blocks b (f (at (rowOf gens counts frees) b)) h (sym (ap f (at-in b h ∙ is) ∙ here)) (λ k l ne. there k ne)
+          tab-set cell (cellAt gens' counts' frees') blocks b (f (at row b)) h (sym (ap f (at-in b h ∙ is) ∙ here)) (λ k l ne. there k ne)
 
       pub stored-taken : (n : ℕ) (t : Bool) → length counts ≡ blocks → f c ≡ cellOf (getD gens b 0) n t →
-          rowOf gens (set counts b n) (put b t frees) ≡ changed f (rowOf gens counts frees) b
+          rowOf gens (set counts b n) (put b t frees) ≡ changed f row b
       stored-taken n t l e =
           stored gens (set counts b n) (put b t frees)
           (rw (getD-set-same counts b n 0 (omega arith), put-here) e)
           (λ k ne. rw (getD-set-other counts b k n 0 ne, put-other b t frees k ne))
 
       pub stored-freed : (g : ℕ) (t : Bool) → length gens ≡ blocks → f c ≡ cellOf g (getD counts b 0) t →
-          rowOf (set gens b g) counts (put b t frees) ≡ changed f (rowOf gens counts frees) b
+          rowOf (set gens b g) counts (put b t frees) ≡ changed f row b
       stored-freed g t l e =
           stored (set gens b g) counts (put b t frees)
           (rw (getD-set-same gens b g 0 (omega arith), put-here) e)
@@ -72,7 +78,7 @@ module _ (gens counts : List ℕ) (frees : ℕ → Bool) where
     -- a live block has another count
     module _ (h : b < blocks) {r : Bool} (e : r ≡ frees b) (out : r ≡ false) where
       pub stored-count : (n : ℕ) → length counts ≡ blocks → f (live (getD gens b 0) (getD counts b 0)) ≡ live (getD gens b 0) n →
-          rowOf gens (set counts b n) frees ≡ changed f (rowOf gens counts frees) b
+          rowOf gens (set counts b n) frees ≡ changed f row b
       stored-count n l to =
           stored h (is-live _ _ _ e out) gens (set counts b n) frees
           (rw (getD-set-same counts b n 0 (omega arith)) (to ∙ sym (is-live _ n _ e out)))
@@ -80,18 +86,18 @@ module _ (gens counts : List ℕ) (frees : ℕ → Bool) where
 
     -- the same as promises of an operation that may free
     module _ (freeing : Cell → Bool) where
-      pub frees-out : freeing absent ≡ false → blocks ≤ b → Frees f freeing (rowOf gens counts frees) b (rowOf gens counts frees) false
+      pub frees-out : freeing absent ≡ false → blocks ≤ b → Frees f freeing row b row false
       frees-out e h = record { answer = rw (at-out b h) (sym e); row = changed-out h }
 
-      module _ (h : b < blocks) {c : Cell} (is : cellAt gens counts frees b ≡ c) where
-        pub frees-not : (f c ≡ c) × (freeing c ≡ false) → Frees f freeing (rowOf gens counts frees) b (rowOf gens counts frees) false
+      module _ (h : b < blocks) {c : Cell} (is : cell b ≡ c) where
+        pub frees-not : (f c ≡ c) × (freeing c ≡ false) → Frees f freeing row b row false
         frees-not e = record { answer = rw (at-in b h, is) (sym (e .1)); row = changed-not h is (e .0) }
 
-        pub frees-it : (t : List Cell) → t ≡ changed freed (rowOf gens counts frees) b → (freed c ≡ f c) × (freeing c ≡ true) →
-            Frees f freeing (rowOf gens counts frees) b t true
-        frees-it t r e = record { answer = rw (at-in b h, is) (sym (e .1)); row = r ∙ rw (at-in b h, is) (ap (set (rowOf gens counts frees) b) (e .0)) }
+        pub frees-it : (t : List Cell) → t ≡ changed freed row b → (freed c ≡ f c) × (freeing c ≡ true) →
+            Frees f freeing row b t true
+        frees-it t r e = record { answer = rw (at-in b h, is) (sym (e .1)); row = r ∙ rw (at-in b h, is) (ap (set row b) (e .0)) }
 
       pub frees-count : b < blocks → {r : Bool} → r ≡ frees b → r ≡ false → (n : ℕ) → length counts ≡ blocks →
           (f (live (getD gens b 0) (getD counts b 0)) ≡ live (getD gens b 0) n) × (freeing (live (getD gens b 0) (getD counts b 0)) ≡ false) →
-          Frees f freeing (rowOf gens counts frees) b (rowOf gens (set counts b n) frees) false
+          Frees f freeing row b (rowOf gens (set counts b n) frees) false
       frees-count h e out n l to = record { answer = rw (at-in b h, is-live _ _ _ e out) (sym (to .1)); row = stored-count h e out n l (to .0) }
