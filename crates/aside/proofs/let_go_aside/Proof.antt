@@ -15,6 +15,7 @@ list-blocks-requires c κs =
       (omega (arith, s .pre .1, side-rings (a .k) _ (s .good .0)), s .pre .2 ∙ aside-is (a .k) (a .q), omega (arith, s .pre .2, s .pre .0 .aside .room (a .q))),
     )
 
+-- among the kernel's fields the search does not reach this length
 slice-aggregate-empty : tie.Need-slice-aggregate-empty
 slice-aggregate-empty c =
     let s = c .before .before .before .before .before .before .before .before .before in
