@@ -49,7 +49,7 @@ pub fn lowest(w: u64, from: usize, to: usize) -> usize
     if to <= from {
         return from;
     }
-    // as far below `to` as that of the range is below the end of the word
+    // moved up, the lowest member is as far from the end of the word as it was from `to`
     to - (WIDTH - (u64::trailing_zeros(range(w, from, to)) as usize))
 }
 
