@@ -19,14 +19,14 @@ const struct bench_case cases[] = {
      .record = {TRUNHOAC_START, 9, 0, 16}, .expected = {.reply = {0, 9, 64, 4, 0, 0, 10, 11, 13, 21}}},
 
     {.name = "NEW, 0 bytes", .call = COMMAND, .prepare = all_started,
-     .record = {TRUNHOAC_NEW, MOVES, 0}, .expected = {.reply = {[VALUES] = 0, 0}}},
+     .record = {TRUNHOAC_NEW, MOVES, 0}, .expected = {.reply = {[COUNT] = 31, 0, 0}}},
     {.name = "NEW, 16 bytes", .call = COMMAND, .prepare = all_started,
-     .record = {TRUNHOAC_NEW, MOVES, 16, [PAYLOAD] = SIXTEEN_BYTES}, .expected = {.reply = {[VALUES] = 0, 0}}},
+     .record = {TRUNHOAC_NEW, MOVES, 16, [PAYLOAD] = SIXTEEN_BYTES}, .expected = {.reply = {[COUNT] = 31, 0, 0}}},
     {.name = "NEW, 64 bytes", .call = COMMAND, .prepare = all_started,
      .record = {TRUNHOAC_NEW, MOVES, 64, [PAYLOAD] = SIXTEEN_BYTES, SIXTEEN_BYTES, SIXTEEN_BYTES, SIXTEEN_BYTES},
-     .expected = {.reply = {[VALUES] = 48, 0}}},
+     .expected = {.reply = {[COUNT] = 7, 48, 0}}},
     {.name = "NEW, 16 bytes, 31 other blocks taken", .call = COMMAND, .prepare = one_block_of_16_left,
-     .record = {TRUNHOAC_NEW, MOVES, 16, [PAYLOAD] = SIXTEEN_BYTES}, .expected = {.reply = {[VALUES] = 31, 0}}},
+     .record = {TRUNHOAC_NEW, MOVES, 16, [PAYLOAD] = SIXTEEN_BYTES}, .expected = {.reply = {[COUNT] = 0, 31, 0}}},
 
     {.name = "POST", .call = COMMAND, .prepare = event_at_nine,
      .record = {TRUNHOAC_POST, 0, 0, 9, 0}, .expected = {.reply = {[VALUES] = 2}}},

@@ -29,7 +29,7 @@ extern "C" {
 
 /* The kernel's memory, of this size and alignment. What it holds is the kernel's own. */
 struct trunhoac_kernel {
-    uint64_t memory[228];
+    uint64_t memory[229];
 };
 
 /* The lengths of a record, of a reply and of the three areas that the host lends. */
@@ -116,7 +116,7 @@ enum {
     TRUNHOAC_AT_NUMBER = 0,
     TRUNHOAC_AT_OBJECT = 1,
     TRUNHOAC_AT_OUTCOME = 2, /* outcome * 32 + signal: trunhoac_outcome, trunhoac_signal */
-    TRUNHOAC_AT_COUNT = 3,
+    TRUNHOAC_AT_COUNT = 3, /* of NEW: its pool's mark, trunhoac_least_free_in */
     TRUNHOAC_AT_VALUES = 4,
     TRUNHOAC_AT_ACTIONS = 6
 };
@@ -178,6 +178,15 @@ static inline struct trunhoac_handle trunhoac_handle_in(const uint8_t *reply)
 {
     struct trunhoac_handle handle = {reply[TRUNHOAC_AT_VALUES], reply[TRUNHOAC_AT_VALUES + 1]};
     return handle;
+}
+
+/*
+ * Of NEW: its pool's mark. That is the least number of free blocks that the
+ * pool has had since the fresh start, the block just taken counted as taken.
+ */
+static inline uint8_t trunhoac_least_free_in(const uint8_t *reply)
+{
+    return reply[TRUNHOAC_AT_COUNT];
 }
 
 /* Of NEXT: the timer whose event it is, or -1 where the event has a handle. */

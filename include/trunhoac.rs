@@ -32,10 +32,10 @@ const FIRST_TIMER: u8 = 128;
 #[repr(C)]
 #[derive(Clone)]
 struct Memory {
-    words: [u64; 228],
+    words: [u64; 229],
 }
 
-const _: () = assert!(size_of::<Memory>() == 1_824 && align_of::<Memory>() == 8);
+const _: () = assert!(size_of::<Memory>() == 1_832 && align_of::<Memory>() == 8);
 
 /// The library's calls.
 mod library {
@@ -234,6 +234,14 @@ pub struct Step {
     pub actions: Actions,
 }
 
+/// NEW's answer: the event, and its pool's mark. That is the least number of free blocks that the pool has had since
+/// the fresh start, the block just taken counted as taken.
+#[derive(Clone, Copy, Debug, PartialEq, Eq)]
+pub struct New {
+    pub event: Handle,
+    pub least_free: u8,
+}
+
 /// PUBLISH's answer.
 #[derive(Clone, Copy, Debug, PartialEq, Eq)]
 pub struct Published {
@@ -331,6 +339,13 @@ impl Reply {
             actions: self.actions(),
         }
     }
+
+    fn new_event(&self) -> New {
+        New {
+            event: self.handle(),
+            least_free: self.0[3],
+        }
+    }
 }
 
 /// The commands' numbers.
@@ -394,7 +409,7 @@ impl Kernel {
     /// A fresh kernel.
     pub fn fresh() -> Kernel {
         let mut parts = Box::new(Parts {
-            memory: Memory { words: [0; 228] },
+            memory: Memory { words: [0; 229] },
             payloads: [0; PAYLOAD_AREA],
             tables: [0; TABLE_AREA],
             log: [[0; REPLY_BYTES]; LOG_LINES],
@@ -416,11 +431,11 @@ impl Kernel {
     }
 
     /// NEW: an event with a payload of at most 64 bytes; a longer one is refused RANGE.
-    pub fn new(&mut self, signal: u8, payload: &[u8]) -> Result<Handle, Refusal> {
+    pub fn new(&mut self, signal: u8, payload: &[u8]) -> Result<New, Refusal> {
         let size = u8::try_from(payload.len()).unwrap_or(u8::MAX);
         let mut record = record(Command::New, &[signal, size]);
         fill(&mut record[HEAD_BYTES..], payload);
-        Ok(self.answer(&record, &[])?.handle())
+        Ok(self.answer(&record, &[])?.new_event())
     }
 
     /// POST: to the back of an object's mail if more places than the margin are free; answers how many are queued.

@@ -10,6 +10,7 @@
 enum { INFUSION_PUMP = 5, VENTILATOR = 9 };                                    /* objects */
 enum { RECORD_LOADED = 5, NOTE = 6, READ_BACK = 8, READING = 9, SIGNED = 11 }; /* signals */
 enum { SHIFT_CHART = 0, REMINDER = 0, EARLY_NOTES = 0 };                       /* a slot, a timer and a side queue */
+enum { SMALL_BLOCKS = 32 };                                                    /* of 16 bytes: all events here fit */
 
 static const char *const devices[TRUNHOAC_OBJECTS + 1] = {
     [INFUSION_PUMP] = "infusion pump", [VENTILATOR] = "ventilator"};
@@ -32,6 +33,7 @@ static size_t chart_length;
 static uint8_t payloads[TRUNHOAC_PAYLOAD_AREA], tables[TRUNHOAC_TABLE_AREA], steps[TRUNHOAC_LOG_AREA];
 static uint8_t record[TRUNHOAC_RECORD_BYTES], reply[TRUNHOAC_REPLY_BYTES];
 static const uint8_t *const values = reply + TRUNHOAC_AT_VALUES;
+static uint8_t least_free; /* of the small blocks, as the last NEW told */
 
 /* Has a record answered, and names the answer. */
 static const char *ask(const uint8_t *filled)
@@ -84,13 +86,19 @@ static void begin(const char *chart_path)
     carry_out(reply);
 }
 
+static struct trunhoac_handle make_event(uint8_t signal, const uint8_t *bytes, uint8_t size)
+{
+    demand("NEW", trunhoac_fill_new(record, signal, bytes, size));
+    least_free = trunhoac_least_free_in(reply);
+    return trunhoac_handle_in(reply);
+}
+
 static struct trunhoac_handle publish_note(void)
 {
     static const uint8_t bytes[] = {7, 8, 9};
     demand("SUBSCRIBE", trunhoac_fill_subscribe(record, VENTILATOR, NOTE));
     demand("SUBSCRIBE", trunhoac_fill_subscribe(record, INFUSION_PUMP, NOTE));
-    demand("NEW", trunhoac_fill_new(record, NOTE, bytes, sizeof bytes));
-    struct trunhoac_handle note = trunhoac_handle_in(reply);
+    struct trunhoac_handle note = make_event(NOTE, bytes, sizeof bytes);
     demand("PUBLISH", trunhoac_fill_publish(record, note));
     printf("A note of three bytes, signal %u, is published: %u receivers\n", NOTE, values[0]);
     return note;
@@ -98,8 +106,7 @@ static struct trunhoac_handle publish_note(void)
 
 static void post_reading(void)
 {
-    demand("NEW", trunhoac_fill_new(record, READING, NULL, 0));
-    struct trunhoac_handle reading = trunhoac_handle_in(reply);
+    struct trunhoac_handle reading = make_event(READING, NULL, 0);
     printf("A second note for the infusion pump is refused: %s\n",
            ask(trunhoac_fill_post(record, reading, INFUSION_PUMP, 0)));
     demand("POST", trunhoac_fill_post(record, reading, VENTILATOR, 0));
@@ -136,8 +143,8 @@ static void drain(void)
 
 static void post_new(uint8_t signal, const uint8_t *bytes, uint8_t size, uint8_t device)
 {
-    demand("NEW", trunhoac_fill_new(record, signal, bytes, size));
-    demand("POST", trunhoac_fill_post(record, trunhoac_handle_in(reply), device, 0));
+    struct trunhoac_handle event = make_event(signal, bytes, size);
+    demand("POST", trunhoac_fill_post(record, event, device, 0));
 }
 
 static void set_note_aside(void)
@@ -210,5 +217,6 @@ int main(int argc, char **argv)
     sign_note();
     recall_note();
     read_and_release(note);
+    printf("The least number of free small blocks tonight: %u of %u\n", least_free, SMALL_BLOCKS);
     return EXIT_SUCCESS;
 }

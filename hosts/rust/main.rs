@@ -12,6 +12,7 @@ const INFUSION_PUMP: u8 = 5;
 const SHIFT_CHART: u8 = 0;
 const REMINDER: u8 = 0;
 const EARLY_NOTES: u8 = 0;
+const SMALL_BLOCKS: u8 = 32; // of 16 bytes: all events here fit
 const RECORD_LOADED: u8 = 5;
 const FAULT: u8 = 6;
 const SIGN: u8 = 8;
@@ -29,8 +30,10 @@ fn main() -> Result<(), Box<dyn Error>> {
     work_off(&mut kernel)?;
     set_note_aside(&mut kernel)?;
     sign_note(&mut kernel)?;
-    recall_note(&mut kernel)?;
-    read_back(&mut kernel, note)
+    let least_free = recall_note(&mut kernel)?;
+    read_back(&mut kernel, note)?;
+    println!("The least number of free small blocks tonight: {least_free} of {SMALL_BLOCKS}");
+    Ok(())
 }
 
 fn begin(kernel: &mut Kernel, chart: &[u8]) -> Result<(), Refusal> {
@@ -46,10 +49,10 @@ fn begin(kernel: &mut Kernel, chart: &[u8]) -> Result<(), Refusal> {
 fn send_notes(kernel: &mut Kernel) -> Result<Handle, Box<dyn Error>> {
     kernel.subscribe(VENTILATOR, FAULT)?;
     kernel.subscribe(INFUSION_PUMP, FAULT)?;
-    let note = kernel.new(FAULT, &[7, 8, 9])?;
+    let note = kernel.new(FAULT, &[7, 8, 9])?.event;
     let receivers = counted(kernel.publish(note)?.receivers, "receiver");
     println!("A note of three bytes, signal {FAULT}, is published: {receivers}");
-    let second = kernel.new(READING, &[])?;
+    let second = kernel.new(READING, &[])?.event;
     let refusal = refused(kernel.post(second, INFUSION_PUMP, 0))?;
     println!("A second note for the infusion pump is refused: {refusal}");
     let queued = kernel.post(second, VENTILATOR, 0)?;
@@ -101,7 +104,7 @@ fn work_off(kernel: &mut Kernel) -> Result<(), Box<dyn Error>> {
 
 fn set_note_aside(kernel: &mut Kernel) -> Result<(), Refusal> {
     println!("A note for the infusion pump comes before its device record has loaded");
-    let note = kernel.new(FAULT, &[4, 5, 6])?;
+    let note = kernel.new(FAULT, &[4, 5, 6])?.event;
     kernel.post(note, INFUSION_PUMP, 0)?;
     open_step(kernel)?;
     let aside = kernel.defer(EARLY_NOTES)?;
@@ -111,15 +114,16 @@ fn set_note_aside(kernel: &mut Kernel) -> Result<(), Refusal> {
 
 fn sign_note(kernel: &mut Kernel) -> Result<(), Refusal> {
     println!("The technician signs the ventilator's note, and only then is it saved");
-    let signature = kernel.new(SIGNED, &[])?;
+    let signature = kernel.new(SIGNED, &[])?.event;
     kernel.post(signature, VENTILATOR, 0)?;
     take_step(kernel)
 }
 
-fn recall_note(kernel: &mut Kernel) -> Result<(), Box<dyn Error>> {
+/// Answers the least number of free small blocks: its NEW is the night's last, and knows of all before it.
+fn recall_note(kernel: &mut Kernel) -> Result<u8, Box<dyn Error>> {
     println!("The infusion pump's device record has loaded");
     let loaded = kernel.new(RECORD_LOADED, &[])?;
-    kernel.post(loaded, INFUSION_PUMP, 0)?;
+    kernel.post(loaded.event, INFUSION_PUMP, 0)?;
     open_step(kernel)?;
     let recalled = kernel.recall(EARLY_NOTES, INFUSION_PUMP)?;
     println!("Recalled: {}", counted(recalled.into(), "note"));
@@ -128,7 +132,8 @@ fn recall_note(kernel: &mut Kernel) -> Result<(), Box<dyn Error>> {
         return Err("the note was expected".into());
     };
     println!("The note that was set aside: {}", payload(kernel, note)?);
-    Ok(close_step(kernel)?)
+    close_step(kernel)?;
+    Ok(loaded.least_free)
 }
 
 fn read_back(kernel: &mut Kernel, note: Handle) -> Result<(), Box<dyn Error>> {

@@ -1,7 +1,7 @@
 //! What the sample night does not reach of the wrapper. The values expected are those of documents 01 and 02.
 
 use trunhoac::Refusal::{self, *};
-use trunhoac::{chart_check, chart_flatten, DrainEnd, Event, Kernel, Outcome, Released};
+use trunhoac::{chart_check, chart_flatten, DrainEnd, Event, Kernel, New, Outcome, Released};
 use trunhoac::{Step, Ticked, REPLY_BYTES, SLOT_BYTES};
 
 #[path = "../../include/trunhoac.rs"]
@@ -48,7 +48,7 @@ fn the_kernel_refuses() {
     assert_eq!(kernel.load(0, SHIFT_CHART), Err(Taken));
     assert_eq!(kernel.end(), Err(NoStep));
     assert_eq!(kernel.next(), Err(Idle));
-    let event = kernel.new(6, &[]).unwrap();
+    let event = kernel.new(6, &[]).unwrap().event;
     assert_eq!(kernel.post(event, 9, 1), Err(Full));
     assert_eq!(kernel.post(event, 9, 0), Ok(1));
     assert_eq!(kernel.drop(event), Err(InUse));
@@ -65,7 +65,7 @@ fn payloads_choose_the_pool() {
     let mut kernel = Kernel::fresh();
     for (size, block) in [(16, 0), (17, 32), (20, 33), (33, 48), (64, 49)] {
         let payload: Vec<u8> = (1..=size).collect();
-        let event = kernel.new(31, &payload).unwrap();
+        let event = kernel.new(31, &payload).unwrap().event;
         assert_eq!((event.block(), event.generation()), (block, 0));
         assert_eq!(kernel.read(event), Ok(&payload[..]));
     }
@@ -75,9 +75,26 @@ fn payloads_choose_the_pool() {
 }
 
 #[test]
+fn new_tells_how_near_its_pool_came() {
+    let mut kernel = Kernel::fresh();
+    let large: Vec<New> = (0..8).map(|_| kernel.new(4, &[0; 64]).unwrap()).collect();
+    let marks: Vec<u8> = large.iter().map(|new| new.least_free).collect();
+    assert_eq!(marks, [7, 6, 5, 4, 3, 2, 1, 0]);
+    assert_eq!(kernel.new(4, &[0; 33]), Err(Dry));
+    for new in &large[1..] {
+        assert_eq!(kernel.drop(new.event), Ok(()));
+    }
+    // 6 of the 8 are free behind this NEW; the others are the first of their pools
+    for (size, least_free) in [(64, 0), (17, 15), (16, 31)] {
+        let new = kernel.new(4, &[0; 64][..size]).unwrap();
+        assert_eq!(new.least_free, least_free);
+    }
+}
+
+#[test]
 fn holds_are_counted() {
     let mut kernel = Kernel::fresh();
-    let event = kernel.new(6, &[]).unwrap();
+    let event = kernel.new(6, &[]).unwrap().event;
     assert_eq!(kernel.release(event), Err(Holds));
     for holds in 1..=15 {
         assert_eq!(kernel.hold(event), Ok(holds));
@@ -87,7 +104,7 @@ fn holds_are_counted() {
         let freed = holds == 0;
         assert_eq!(kernel.release(event), Ok(Released { holds, freed }));
     }
-    let event = kernel.new(6, &[]).unwrap();
+    let event = kernel.new(6, &[]).unwrap().event;
     assert_eq!((event.block(), event.generation()), (0, 1));
     assert_eq!(kernel.drop(event), Ok(()));
 }
@@ -98,7 +115,7 @@ fn publishing_follows_the_subscriptions() {
     assert_eq!(kernel.subscribe(9, 6), Ok(true));
     assert_eq!(kernel.subscribe(9, 6), Ok(false));
     for expected in [(1, false), (0, true)] {
-        let event = kernel.new(6, &[]).unwrap();
+        let event = kernel.new(6, &[]).unwrap().event;
         let published = kernel.publish(event).unwrap();
         assert_eq!((published.receivers, published.freed), expected);
         assert_eq!(kernel.unsubscribe(9, 6), Ok(!published.freed));
@@ -108,7 +125,7 @@ fn publishing_follows_the_subscriptions() {
 #[test]
 fn steps_tell_what_the_chart_makes_of_a_signal() {
     let mut kernel = started(3);
-    let [fault, reading] = [6, 9].map(|signal| kernel.new(signal, &[]).unwrap());
+    let [fault, reading] = [6, 9].map(|signal| kernel.new(signal, &[]).unwrap().event);
     assert_eq!(kernel.post(fault, 9, 0), Ok(1));
     assert_eq!(kernel.post(reading, 9, 0), Ok(2));
     assert_eq!(kernel.post_front(reading, 9), Ok(3));
@@ -158,7 +175,7 @@ fn timers_fire_by_ascending_number() {
 fn side_queues_keep_events() {
     let mut kernel = started(1);
     assert_eq!(kernel.defer(0), Err(NoStep));
-    let event = kernel.new(6, &[1, 2]).unwrap();
+    let event = kernel.new(6, &[1, 2]).unwrap().event;
     assert_eq!(kernel.post(event, 9, 0), Ok(1));
     assert!(kernel.next().is_ok());
     for aside in 1..=8 {
@@ -183,7 +200,7 @@ fn side_queues_keep_events() {
 #[test]
 fn the_oldest_is_recalled_to_the_front() {
     let mut kernel = started(3);
-    let [first, second, third] = [6, 9, 31].map(|signal| kernel.new(signal, &[]).unwrap());
+    let [first, second, third] = [6, 9, 31].map(|signal| kernel.new(signal, &[]).unwrap().event);
     for (event, side, aside) in [(first, 0, 1), (second, 0, 2), (third, 1, 1)] {
         assert_eq!(kernel.post(event, 9, 0), Ok(1));
         assert!(kernel.next().is_ok());
@@ -247,7 +264,7 @@ fn no_row_is_unsound() {
     assert_eq!(kernel.start(9, 0, 1), Err(Absent));
     let mut kernel = started(1);
     for signal in (4..=31).cycle().take(280) {
-        let event = kernel.new(signal, &[]).unwrap();
+        let event = kernel.new(signal, &[]).unwrap().event;
         assert_eq!(kernel.post(event, 9, 0), Ok(1));
         assert_eq!(kernel.drain(2).unwrap().end, DrainEnd::Empty);
     }
@@ -256,9 +273,10 @@ fn no_row_is_unsound() {
 #[test]
 fn kernels_stand_side_by_side() {
     let (mut one, mut other) = (Kernel::fresh(), Kernel::fresh());
-    let event = one.new(6, &[1, 2]).unwrap();
+    let new = one.new(6, &[1, 2]).unwrap();
+    let event = new.event;
     assert_eq!(other.read(event), Err(Stale));
-    assert_eq!(other.new(7, &[3]), Ok(event));
+    assert_eq!(other.new(7, &[3]), Ok(new));
     let mut copy = one.clone();
     assert_eq!(one.drop(event), Ok(()));
     assert_eq!(one.read(event), Err(Stale));

@@ -70,6 +70,30 @@ static void test_change(int change)
     expect(untouched(), "the areas are as they were");
 }
 
+/* Gives the kernel a record with a payload area of this length, and answers the reply. */
+static const uint8_t *give(const uint8_t *record, size_t length)
+{
+    static uint8_t area[TRUNHOAC_PAYLOAD_AREA], reply[TRUNHOAC_REPLY_BYTES];
+
+    trunhoac_command(&kernel, record, TRUNHOAC_RECORD_BYTES, NULL, 0, area, length, NULL, 0, NULL, 0, reply);
+    return reply;
+}
+
+/* A NEW that is refused does not move its pool's mark: one block, freed and taken again, leaves 31 as before. */
+static void test_mark(void)
+{
+    struct trunhoac_handle event = {0, 0};
+    uint8_t record[TRUNHOAC_RECORD_BYTES];
+
+    trunhoac_fill_new(record, 4, NULL, 0);
+    trunhoac_fresh(&kernel);
+    expect(trunhoac_least_free_in(give(record, TRUNHOAC_PAYLOAD_AREA)) == 31, "the first block leaves 31");
+    expect(give(record, TRUNHOAC_PAYLOAD_AREA - 1)[TRUNHOAC_AT_NUMBER] == TRUNHOAC_AREA, "NEW");
+    expect(give(trunhoac_fill_drop(record, event), 0)[TRUNHOAC_AT_NUMBER] == TRUNHOAC_DONE, "DROP, which uses no area");
+    trunhoac_fill_new(record, 4, NULL, 0);
+    expect(trunhoac_least_free_in(give(record, TRUNHOAC_PAYLOAD_AREA)) == 31, "the mark is as it was");
+}
+
 void test_areas(void)
 {
     memset(payloads, FILL, sizeof payloads);
@@ -79,4 +103,6 @@ void test_areas(void)
         now_at("areas of another length", (unsigned long)change);
         test_change(change);
     }
+    now_at("the mark, after a payload area of another length", 0);
+    test_mark();
 }

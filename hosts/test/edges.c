@@ -11,7 +11,9 @@
 
 enum side { AT_THE_END, AT_THE_START };
 
-enum { LAST_OBJECT = TRUNHOAC_OBJECTS, LAST_SIDE = TRUNHOAC_SIDE_QUEUES - 1, LAST_LARGE_BLOCK = 55, MOVES = 6 };
+enum { FIRST_LARGE_BLOCK = 48, LAST_LARGE_BLOCK = 55 };
+
+enum { LAST_OBJECT = TRUNHOAC_OBJECTS, LAST_SIDE = TRUNHOAC_SIDE_QUEUES - 1, MOVES = 6 };
 
 static struct {
     struct trunhoac_kernel *kernel;
@@ -56,6 +58,20 @@ static void done(const uint8_t *filled)
     expect(lent.reply[TRUNHOAC_AT_NUMBER] == TRUNHOAC_DONE, "the command is done");
 }
 
+/* The first block, and the pool of the last: that one runs empty, and each NEW tells how many are left. */
+static void take_blocks(void)
+{
+    uint8_t *record = lent.record;
+    uint8_t payload[TRUNHOAC_MOST_PAYLOAD_BYTES] = {0};
+
+    done(trunhoac_fill_new(record, MOVES, payload, 16));
+    expect(trunhoac_least_free_in(lent.reply) == 31, "31 blocks of 16 bytes are left");
+    for (int block = FIRST_LARGE_BLOCK; block <= LAST_LARGE_BLOCK; block++) {
+        done(trunhoac_fill_new(record, TRUNHOAC_LAST_SIGNAL, payload, sizeof payload));
+        expect(trunhoac_least_free_in(lent.reply) == LAST_LARGE_BLOCK - block, "how many blocks of 64 bytes are left");
+    }
+}
+
 /*
  * The first and the last place of the side queues' rings: each turn moves the front of the last one a place on, so that
  * the entries of the full side queue then end where its ring does. The mail is in the end as it was.
@@ -86,7 +102,6 @@ static void use_side_queues(void)
 static void use_edges(void)
 {
     uint8_t *record = lent.record;
-    uint8_t payload[TRUNHOAC_MOST_PAYLOAD_BYTES] = {0};
     struct trunhoac_handle first = {0, 0}, last = {LAST_LARGE_BLOCK, 0};
 
     trunhoac_fresh(lent.kernel);
@@ -94,9 +109,7 @@ static void use_edges(void)
     done(trunhoac_fill_load(record, TRUNHOAC_SLOTS - 1));
     for (uint8_t p = 1; p <= LAST_OBJECT; p++)
         done(trunhoac_fill_start(record, p, TRUNHOAC_SLOTS - 1, TRUNHOAC_MOST_DEPTH));
-    done(trunhoac_fill_new(record, MOVES, payload, 16));
-    for (int block = 48; block <= LAST_LARGE_BLOCK; block++)
-        done(trunhoac_fill_new(record, TRUNHOAC_LAST_SIGNAL, payload, sizeof payload));
+    take_blocks();
     for (int place = 0; place < TRUNHOAC_MOST_DEPTH; place++)
         for (uint8_t p = 1; p <= LAST_OBJECT; p++)
             done(trunhoac_fill_post(record, place == 0 ? first : last, p, 0));

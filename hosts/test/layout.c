@@ -5,12 +5,13 @@
  */
 #include "test.h"
 
-enum { BLOCKS = 56, OBJECTS = 16, PLACES = 16, SIDES = 8, SIGNAL_PLACES = 32, SLOTS = 4, TIMERS = 16 };
+enum { BLOCKS = 56, POOLS = 3, OBJECTS = 16, PLACES = 16, SIDES = 8, SIGNAL_PLACES = 32, SLOTS = 4, TIMERS = 16 };
 
 struct pool {
     uint64_t free; /* the digit of each block that is free */
     uint8_t gens[BLOCKS];
     uint16_t counts[BLOCKS]; /* of a live block: its references */
+    uint8_t marks[POOLS]; /* of each pool: the least number of its blocks that were free */
 };
 
 struct kernel {
@@ -46,12 +47,21 @@ static const struct trunhoac_handle last_block = {BLOCKS - 1, 0};
 static uint8_t record[TRUNHOAC_RECORD_BYTES];
 static struct kernel k; /* as the library left it */
 
-/* Up to the end of its last field; what lies behind that is a gap, and nobody's. */
-enum { KERNEL_BYTES = offsetof(struct kernel, hand) + sizeof k.hand };
+/* Up to the end of the last field, of the pool and of the kernel; what lies behind each is a gap, and nobody's. */
+enum {
+    POOL_BYTES = offsetof(struct pool, marks) + sizeof k.pool.marks,
+    BEHIND_POOL = offsetof(struct kernel, signals),
+    KERNEL_BYTES = offsetof(struct kernel, hand) + sizeof k.hand
+};
 
 static void take_kernel(void)
 {
     memcpy(&k, lent_kernel(), sizeof k);
+}
+
+static bool same_bytes(size_t from, size_t to)
+{
+    return memcmp((const uint8_t *)&k + from, (const uint8_t *)lent_kernel() + from, to - from) == 0;
 }
 
 static bool is_free(unsigned block)
@@ -71,7 +81,7 @@ static void test_fresh(void)
     lend_fresh(FILL);
     take_kernel();
     lend_fresh(FILL / 2);
-    expect(memcmp(&k, lent_kernel(), KERNEL_BYTES) == 0, "a fresh start writes every byte");
+    expect(same_bytes(0, POOL_BYTES) && same_bytes(BEHIND_POOL, KERNEL_BYTES), "a fresh start writes every byte");
     expect(k.pool.free == ((uint64_t)1 << BLOCKS) - 1, "every block is free");
 }
 
@@ -98,6 +108,32 @@ static void test_blocks(void)
     done(trunhoac_fill_release(record, last_block));
     expect(k.pool.gens[0] == 1 && k.pool.gens[BLOCKS - 1] == 0, "generations");
     expect(is_free(0) && !is_free(BLOCKS - 1) && k.pool.counts[BLOCKS - 1] == 1, "a block that is free, and one that is not");
+}
+
+static void expect_marks(uint8_t small, uint8_t middle, uint8_t large)
+{
+    expect(k.pool.marks[0] == small && k.pool.marks[1] == middle && k.pool.marks[2] == large, "the pools' marks");
+}
+
+/* Of each pool the least number of free blocks: a NEW moves the mark of one, and freeing none. */
+static void test_marks(void)
+{
+    static const uint8_t payload[TRUNHOAC_MOST_PAYLOAD_BYTES] = {0};
+
+    lend_fresh(FILL);
+    take_kernel();
+    expect_marks(32, 16, 8);
+    done(trunhoac_fill_new(record, 4, payload, 16));
+    done(trunhoac_fill_new(record, 4, payload, 16));
+    expect_marks(30, 16, 8);
+    done(trunhoac_fill_new(record, 4, payload, sizeof payload));
+    expect_marks(30, 16, 7);
+    done(trunhoac_fill_drop(record, first_block));
+    done(trunhoac_fill_drop(record, second_block));
+    expect_marks(30, 16, 7);
+    done(trunhoac_fill_new(record, 4, payload, 16)); /* 31 are free */
+    done(trunhoac_fill_new(record, 4, payload, 32));
+    expect_marks(30, 15, 7);
 }
 
 /* A fresh kernel with the objects 1 and 16 on the charts of the slots 0 and 3. */
@@ -212,6 +248,7 @@ void test_layout(void)
     now_at("layout", 0);
     test_fresh();
     test_blocks();
+    test_marks();
     test_objects();
     test_mail();
     test_side_queues();

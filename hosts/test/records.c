@@ -48,14 +48,16 @@ static void test_other_commands(void)
     expect_record(trunhoac_fill_flush(record, 7), "21 7");
 }
 
-/* The answers to a NEXT of signal 31, a transition: of an event with a block, and of the last timer's. */
+/* The answers to a NEXT of signal 31, a transition: of an event with a block, and of the last timer's; and to a NEW. */
 static void test_replies(void)
 {
     static const uint8_t reply[TRUNHOAC_REPLY_BYTES] = {0, 9, 95, 2, 55, 200, 10, 11};
     static const uint8_t of_timer[TRUNHOAC_REPLY_BYTES] = {0, 9, 95, 0, 143};
+    static const uint8_t of_new[TRUNHOAC_REPLY_BYTES] = {0, 0, 0, 7, 55, 200};
     struct trunhoac_handle handle = trunhoac_handle_in(reply);
 
     expect(handle.block == 55 && handle.generation == 200, "the handle");
+    expect(trunhoac_least_free_in(of_new) == 7, "the mark");
     expect(trunhoac_timer_in(reply) == -1 && trunhoac_timer_in(of_timer) == 15, "the timer");
     expect(trunhoac_outcome(reply) == 2, "the outcome");
     expect(trunhoac_signal(reply) == 31, "the signal");

@@ -10,8 +10,8 @@ use lib.Count.{under, trailingZeros, trailing-le, ones, onesIn, ones-step}
 use lib.Dec.{eqb}
 use lib.Pow.{mod-mod-pow, field, shr-shr}
 use Rattle.bits.specs.Inside.{movedUp}
-use Rattle.bits.specs.Members.{members, countFrom, width}
-use Rattle.ground.specs.Range.{firstFrom}
+use Rattle.bits.specs.Members.{members, width}
+use Rattle.ground.specs.Range.{countFrom, firstFrom}
 
 -- the k digits from i on
 half : (w i : ℕ) → w / 2 ^ i / 2 ≡ w / 2 ^ suc i

@@ -1,6 +1,6 @@
--- A word as a set of numbers, and what is searched and counted among them.
+-- A word as a set of numbers, and what is searched among them.
 use mathlib.Core.Bool.{Bool, cond}
-use Prim.Native.Nat.{ℕ, zero, suc, _+_, _/_, _%_, _^_}
+use Prim.Native.Nat.{ℕ, zero, suc, _/_, _%_, _^_}
 use lib.Dec.{eqb}
 
 -- A word has so many digits, so its members are below this.
@@ -19,8 +19,3 @@ put i t s j = cond (eqb j i) t (s j)
 unfoldable pub lastBelow : (ℕ → Bool) → ℕ → ℕ
 lastBelow s zero = 0
 lastBelow s (suc n) = cond (s n) (suc n) (lastBelow s n)
-
--- How many of the k numbers from i on are in the set.
-unfoldable pub countFrom : (ℕ → Bool) → ℕ → ℕ → ℕ
-countFrom s i zero = 0
-countFrom s i (suc k) = cond (s i) 1 0 + countFrom s (suc i) k

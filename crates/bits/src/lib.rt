@@ -3,8 +3,8 @@ ghost use mathlib.Core.Bool.{true, false};
 ghost use mathlib.Core.Path.{_≡_};
 ghost use Prim.Native.Nat.{_-_, _<_, _≤_};
 ghost use Rattle.bits.specs.Inside.{movedUp};
-ghost use Rattle.bits.specs.Members.{members, put, lastBelow, countFrom, width};
-ghost use Rattle.ground.specs.Range.{firstFrom};
+ghost use Rattle.bits.specs.Members.{members, put, lastBelow, width};
+ghost use Rattle.ground.specs.Range.{countFrom, firstFrom};
 
 const WIDTH: usize = 64;
 

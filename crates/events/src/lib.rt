@@ -9,9 +9,9 @@ ghost use Rattle.machine.specs.Events as machine;
 ghost use Rattle.machine.specs.Events.{fullReceiver, postTests, posted, postedFront, publishDone, published};
 ghost use Rattle.machine.specs.Numbers.{blocks, objects};
 ghost use Rattle.machine.specs.Reply.{Areas, lowest};
-ghost use Rattle.machine.specs.State.{withCells, withHolds};
+ghost use Rattle.machine.specs.State.{withCells, withHolds, withMarks};
 ghost use Rattle.mail.specs.Box.{room};
-ghost use Rattle.pool.specs.View.{cells};
+ghost use Rattle.pool.specs.View.{cells, marks};
 ghost use Rattle.state.specs.View.{answered, Good, stateOf};
 use ground::byte_at;
 use ground::one;
@@ -169,7 +169,7 @@ pub fn publish(k: Kernel, spoilt: bool, b: usize, generation: u8) -> Answered
 // The kernel with another pool and n holds on block b.
 fn with_holds(mut k: Kernel, pool: Pool, b: usize, n: u8) -> Kernel
     requires { ⌜ b < blocks ⌝ }
-    ensures { λ r. ⌜ stateOf r ≡ withHolds (set (k .holds) b n) (withCells (cells pool) (stateOf k)) ⌝ }
+    ensures { λ r. ⌜ stateOf r ≡ withHolds (set (k .holds) b n) (withMarks (marks pool) (withCells (cells pool) (stateOf k))) ⌝ }
 {
     k.holds[b] = n;
     k.pool = pool;
@@ -215,7 +215,7 @@ pub fn release(k: Kernel, spoilt: bool, b: usize, generation: u8) -> Answered
 
 // The kernel with another pool.
 fn with_pool(mut k: Kernel, pool: Pool) -> Kernel
-    ensures { λ r. ⌜ stateOf r ≡ withCells (cells pool) (stateOf k) ⌝ }
+    ensures { λ r. ⌜ stateOf r ≡ withMarks (marks pool) (withCells (cells pool) (stateOf k)) ⌝ }
 {
     k.pool = pool;
     k

@@ -1,7 +1,8 @@
--- To be believed: Range (lists and searches that are given by a function of a place) and Bytes. The rest are laws: Tab, Search, Every of
--- Range; Padding of Bytes; Bools, Lists, Parts of what their names say.
+-- To be believed: Range (lists, searches and counts that are given by a function of a place) and Bytes. The rest are laws: Tab, Search,
+-- Counting, Every of Range; Padding of Bytes; Bools, Lists, Parts of what their names say.
 pub mod Bools
 pub mod Bytes
+pub mod Counting
 pub mod Every
 pub mod Lists
 pub mod Padding

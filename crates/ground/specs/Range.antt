@@ -1,7 +1,7 @@
--- Lists and searches over a range of numbers, given by a function of the number.
+-- Lists, searches and counts over a range of numbers, given by a function of the number.
 use mathlib.Core.Bool.{Bool, true, cond, _&&_}
 use mathlib.Core.List.{List, [], _∷_}
-use Prim.Native.Nat.{ℕ, zero, suc, _-_}
+use Prim.Native.Nat.{ℕ, zero, suc, _+_, _-_}
 
 -- f i, f (i + 1), .. : k of them.
 unfoldable pub tabFrom : {A : Type 0} → (ℕ → A) → ℕ → ℕ → List A
@@ -16,6 +16,11 @@ tab f n = tabFrom f 0 n
 unfoldable pub firstFrom : (ℕ → Bool) → ℕ → ℕ → ℕ
 firstFrom p i zero = i
 firstFrom p i (suc k) = cond (p i) i (firstFrom p (suc i) k)
+
+-- How many of the k numbers from i on pass the test.
+unfoldable pub countFrom : (ℕ → Bool) → ℕ → ℕ → ℕ
+countFrom p i zero = 0
+countFrom p i (suc k) = cond (p i) 1 0 + countFrom p (suc i) k
 
 -- Each of the k numbers from i on passes the test.
 unfoldable pub everyFrom : (ℕ → Bool) → ℕ → ℕ → Bool

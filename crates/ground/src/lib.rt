@@ -2,6 +2,7 @@
 ghost use mathlib.Core.Bool.{cond};
 ghost use mathlib.Core.Path.{_≡_};
 ghost use Prim.Native.Nat.{_<_, _≤_};
+ghost use lib.Dec.{ltb};
 ghost use lib.ListN.{getD, length};
 ghost use Rattle.ground.specs.Bytes.{padded};
 ghost use Rattle.ground.specs.Bytes as bytes;
@@ -18,6 +19,13 @@ pub fn one(t: bool) -> u8
     ensures { λ r. ⌜ (r ≡ cond t 1 0) × (r ≤ 1) ⌝ }
 {
     if t { 1 } else { 0 }
+}
+
+// The smaller of two numbers.
+pub fn least(a: usize, b: usize) -> usize
+    ensures { λ r. ⌜ (r ≡ cond (ltb a b) a b) × (r ≤ b) ⌝ }
+{
+    if a < b { a } else { b }
 }
 
 // Byte i, 0 past the end.

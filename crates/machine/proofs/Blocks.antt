@@ -44,7 +44,7 @@ use Rattle.machine.specs.Events.{counted, freedNew, newEvent, newIn, pos
 use Rattle.machine.specs.Inv.{Inv, isLive, references, countOf, IsSignal, IsEvent, IsBlock, InHand, StoreOk, MailOk, SidesOk}
 use Rattle.machine.specs.Numbers.{objects, mostBytes, payloadBytes, mostHolds, sideQueues, mostAside, capacity, placeOf}
 use Rattle.machine.specs.Reply.{Areas}
-use Rattle.machine.specs.State.{State, Events, sizeIn, holdsOn, sideOf, depthOf, room, withCells, withEvents, withBoxes, withSides, withHand, withHolds}
+use Rattle.machine.specs.State.{State, Events, sizeIn, holdsOn, sideOf, depthOf, room, withCells, withMarks, withEvents, withBoxes, withSides, withHand, withHolds}
 
 -- The fields that the blocks and their references stand in.
 pub events-inv : (s : State) (cells : List Cell) (e : Events) (boxes sides : List (List ℕ)) (h : Hand) → Inv s →
@@ -60,6 +60,20 @@ events-inv s cells e boxes sides h i store mail aside in-hand c = record {
   timers = i .timers;
   in-hand = in-hand;
   counted = c;
+}
+
+-- Nothing must hold of the marks.
+marks-inv : (s : State) (marks : List ℕ) → Inv s → Inv (withMarks marks s)
+unfolding references
+marks-inv s marks i = record {
+  store = i .store;
+  mail = i .mail;
+  aside = i .aside;
+  seats = i .seats;
+  wants = i .wants;
+  timers = i .timers;
+  in-hand = i .in-hand;
+  counted = i .counted;
 }
 
 -- Block b as f makes it.
@@ -170,9 +184,9 @@ module _ (s : State) (g n : ℕ) (i : Inv s) (sig : IsSignal g) (h : n ≤ mostB
       let l : b < blocks = omega (arith, w .high, pool-end n) in
       let none : countOf (at (s .cells) b) ≡ 0 = count-free (at (s .cells) b) (w .is-free) in
       let unheld : getD (s .events .holds) b 0 ≡ 0 = omega (arith, i .counted b l) in
-      events-inv s (changed handedOut (s .cells) b)
+      events-inv (withMarks _ s) (changed handedOut (s .cells) b)
       (record { signals = set (s .events .signals) b g; sizes = set (s .events .sizes) b n; holds = set (s .events .holds) b 0 })
-      (s .boxes) (s .sides) (s .hand) i
+      (s .boxes) (s .sides) (s .hand) (marks-inv s _ i)
       (store-new (s .cells) (s .events) b (i .store) l handedOut g n sig (pool-fits n b h (w .low)))
       (i .mail)
       (i .aside)

@@ -43,7 +43,7 @@ use Rattle.machine.specs.Events.{
 }
 use Rattle.machine.specs.Machine.{answerTo}
 use Rattle.machine.specs.Numbers.{replyBytes}
-use Rattle.machine.specs.Reply.{FORM, CHART, Said, no, badChart, done, ran, shown, bytes, replyOf, Areas, Answer, answer, lowest, unless, unlessFault}
+use Rattle.machine.specs.Reply.{FORM, CHART, Said, no, badChart, done, made, ran, shown, bytes, replyOf, Areas, Answer, answer, lowest, unless, unlessFault}
 use Rattle.machine.specs.State.{State}
 use Rattle.machine.specs.Steps.{stepTests, nextTests, nextSays, next, endTests, end, drainTests, drainDone, drain}
 
@@ -52,6 +52,7 @@ unfolding replyOf bytes
 reply-length (no n) = omega (arith, length-padded 18 [])
 reply-length (badChart c) = omega (arith, length-padded 18 [])
 reply-length (done v w) = omega (arith, length-padded 18 [])
+reply-length (made b g mark) = omega (arith, length-padded 18 [])
 reply-length (ran p g v w row) = omega (arith, length-padded 18 (drop 3 row))
 reply-length (shown l) = omega (arith, length-padded 18 l)
 
@@ -101,6 +102,10 @@ module _ (d : List ℕ) (s : State) (z : Areas) where
     unfolding replyOf bytes
     says v w = does (done v w) refl
 
+    makes : (b g mark : ℕ) → Replies d s z (answer t (made b g mark) y)
+    unfolding replyOf bytes
+    makes b g mark = does (made b g mark) refl
+
     runs : (p g v w : ℕ) (row : List ℕ) → Replies d s z (answer t (ran p g v w row) y)
     unfolding replyOf bytes
     runs p g v w row = does (ran p g v w row) refl
@@ -126,7 +131,7 @@ module _ (d : List ℕ) (s : State) (z : Areas) where
 
   newIn-replies : (f : Found) (g n : ℕ) (payload : List ℕ) → Replies d s z (newIn f g n payload s z)
   unfolding newIn
-  newIn-replies (At b) g n payload = says _ _ _ _
+  newIn-replies (At b) g n payload = makes _ _ _ _ _
   newIn-replies Nothing g n payload = says _ _ _ _
 
   publishDone-replies : (n b : ℕ) → Replies d s z (publishDone n b s z)

@@ -10,12 +10,13 @@ use Rattle.mail.specs.Box.{one, pushBack, pushFront}
 use Rattle.mail.specs.Entry.{entryOf}
 use Rattle.mail.specs.declared.Hand.the-variants.{Block}
 use Rattle.pool.specs.Cell.{isNew, atLast, handedOut, more, fewer, dropped}
-use Rattle.pool.specs.Row.{at, changed, found, generationAt, staleAt}
+use Rattle.pool.specs.Mark.{markOf, marksAfter}
+use Rattle.pool.specs.Row.{at, changed, found, generationAt, poolFor, staleAt}
 use Rattle.pool.specs.declared.Found.{Found}
 use Rattle.pool.specs.declared.Found.the-variants.{At, Nothing}
 use Rattle.machine.specs.Numbers.{objects, payloadBytes, mostHolds, noObject, noSignal, noBlock, noSize, noMargin, capacity, placeOf}
-use Rattle.machine.specs.State.{State, signalIn, sizeIn, holdsOn, boxOf, started, room, subscribed, wantPlace, withCells, withEvents, withBoxes, withWants, withHolds}
-use Rattle.machine.specs.Reply.{FORM, AREA, RANGE, STALE, ABSENT, FULL, DRY, HOLDS, INUSE, done, shown, Areas, Answer, answer, lowest, unless, withPayloads, over}
+use Rattle.machine.specs.State.{State, signalIn, sizeIn, holdsOn, boxOf, started, room, subscribed, wantPlace, withCells, withMarks, withEvents, withBoxes, withWants, withHolds}
+use Rattle.machine.specs.Reply.{FORM, AREA, RANGE, STALE, ABSENT, FULL, DRY, HOLDS, INUSE, done, made, shown, Areas, Answer, answer, lowest, unless, withPayloads, over}
 
 abbrev pub payloadsBad : List ℕ → Bool
 payloadsBad payloads = not (eqb (length payloads) payloadBytes)
@@ -40,6 +41,7 @@ abbrev pub isFresh : State → ℕ → Bool
 isFresh s b = isNew (at (s .cells) b)
 
 -- 3 NEW signal, size 0-64, payload: the lowest free block of the first pool whose blocks are large enough; the rest of the block is 0.
+-- The count byte is that pool's mark, this block counted as taken (document 02, request 5).
 unfoldable pub noneFound : Found → Bool
 noneFound (At b) = false
 noneFound Nothing = true
@@ -56,12 +58,13 @@ newTests spoilt g n s payloads =
 unfoldable pub newEvent : State → ℕ → ℕ → ℕ → State
 newEvent s b g n =
     withCells (changed handedOut (s .cells) b)
-    (withEvents (record { signals = set (s .events .signals) b g; sizes = set (s .events .sizes) b n; holds = set (s .events .holds) b 0 }) s)
+    (withMarks (marksAfter (s .cells) (s .marks) (poolFor n) (At b))
+    (withEvents (record { signals = set (s .events .signals) b g; sizes = set (s .events .sizes) b n; holds = set (s .events .holds) b 0 }) s))
 
 unfoldable pub newIn : Found → ℕ → ℕ → List ℕ → State → Areas → Answer
 newIn Nothing g n payload s z = answer s (done 0 0) z
 newIn (At b) g n payload s z =
-    answer (newEvent s b g n) (done b (generationAt (s .cells) b))
+    answer (newEvent s b g n) (made b (generationAt (s .cells) b) (markOf (newEvent s b g n .marks) (poolFor n)))
     (withPayloads (over (z .payloads) (placeOf b) (padded (capacity b) (take n payload))) z)
 
 unfoldable pub new : Bool → ℕ → ℕ → List ℕ → State → Areas → Answer

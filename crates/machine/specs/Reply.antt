@@ -55,12 +55,13 @@ CHART = 14
 abbrev pub TABLE : ℕ
 TABLE = 15
 
--- What a reply says: a refusal by its number; CHART with the class; DONE with two values; DONE of START and NEXT with the object, the
--- signal, two values and the row that was taken; DONE of READ with the payload.
+-- What a reply says: a refusal by its number; CHART with the class; DONE with two values; DONE of NEW with the handle and the pool's
+-- mark; DONE of START and NEXT with the object, the signal, two values and the row that was taken; DONE of READ with the payload.
 pub data Said : Type 0 where
   no : ℕ → Said
   badChart : ℕ → Said
   done : ℕ → ℕ → Said
+  made : ℕ → ℕ → ℕ → Said
   ran : ℕ → ℕ → ℕ → ℕ → List ℕ → Said
   shown : List ℕ → Said
 
@@ -72,6 +73,7 @@ unfoldable pub replyOf : Said → List ℕ
 replyOf (no n) = bytes n 0 0 0 0 0 0 []
 replyOf (badChart c) = bytes CHART 0 0 0 0 c 0 []
 replyOf (done v w) = bytes DONE 0 0 0 0 v w []
+replyOf (made b g mark) = bytes DONE 0 0 0 mark b g []
 replyOf (ran p g v w row) = bytes DONE p (getD row 1 0) g (getD row 2 0) v w (drop 3 row)
 replyOf (shown l) = bytes DONE 0 0 0 (length (take mostActions l)) (length l) 0 l
 

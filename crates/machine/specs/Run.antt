@@ -52,6 +52,7 @@ afterRun s x = withCells (goneAll (s .cells) (x .gone)) (withBoxes (x .boxes) (w
 abbrev pub seen : List ℕ → List ℕ → List ℕ → Run → State
 seen gens signals seats x = record {
   cells = tab (λ b. free (getD gens b 0)) blocks;
+  marks = [];
   events = record { signals = signals; sizes = []; holds = [] };
   boxes = x .boxes;
   sides = [];

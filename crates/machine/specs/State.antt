@@ -8,6 +8,7 @@ use Rattle.mail.specs.Box.{boxAt}
 use Rattle.mail.specs.declared.Hand.{Hand}
 use Rattle.mail.specs.declared.Hand.the-variants.{Nothing, Block, Timer}
 use Rattle.pool.specs.Cell.{Cell}
+use Rattle.pool.specs.Mark.{freshMarks}
 use Rattle.pool.specs.Row.{freshRow}
 use Rattle.machine.specs.Numbers.{objects, blocks, timers, slots, sideQueues, signalPlaces}
 
@@ -33,6 +34,8 @@ pub record Timers : Type 0 where
 pub record State : Type 0 where
   -- the 56 blocks: free, or live with so many references
   pub cells : List Cell
+  -- of each pool the least number of free blocks so far
+  pub marks : List ℕ
   pub events : Events
   -- the mailboxes, one list of entries an object, front first
   pub boxes : List (List ℕ)
@@ -50,6 +53,7 @@ pub record State : Type 0 where
 abbrev pub freshState : State
 freshState = record {
   cells = freshRow;
+  marks = freshMarks;
   events = record { signals = replicate blocks 0; sizes = replicate blocks 0; holds = replicate blocks 0 };
   boxes = replicate objects [];
   sides = replicate sideQueues [];
@@ -114,31 +118,34 @@ isOpen (Timer t g) = true
 
 -- The state with one part replaced.
 abbrev pub withCells : List Cell → State → State
-withCells x s = record { cells = x; events = s .events; boxes = s .boxes; sides = s .sides; objects = s .objects; wants = s .wants; loaded = s .loaded; timers = s .timers; hand = s .hand }
+withCells x s = record { cells = x; marks = s .marks; events = s .events; boxes = s .boxes; sides = s .sides; objects = s .objects; wants = s .wants; loaded = s .loaded; timers = s .timers; hand = s .hand }
+
+abbrev pub withMarks : List ℕ → State → State
+withMarks x s = record { cells = s .cells; marks = x; events = s .events; boxes = s .boxes; sides = s .sides; objects = s .objects; wants = s .wants; loaded = s .loaded; timers = s .timers; hand = s .hand }
 
 abbrev pub withEvents : Events → State → State
-withEvents x s = record { cells = s .cells; events = x; boxes = s .boxes; sides = s .sides; objects = s .objects; wants = s .wants; loaded = s .loaded; timers = s .timers; hand = s .hand }
+withEvents x s = record { cells = s .cells; marks = s .marks; events = x; boxes = s .boxes; sides = s .sides; objects = s .objects; wants = s .wants; loaded = s .loaded; timers = s .timers; hand = s .hand }
 
 abbrev pub withBoxes : List (List ℕ) → State → State
-withBoxes x s = record { cells = s .cells; events = s .events; boxes = x; sides = s .sides; objects = s .objects; wants = s .wants; loaded = s .loaded; timers = s .timers; hand = s .hand }
+withBoxes x s = record { cells = s .cells; marks = s .marks; events = s .events; boxes = x; sides = s .sides; objects = s .objects; wants = s .wants; loaded = s .loaded; timers = s .timers; hand = s .hand }
 
 abbrev pub withSides : List (List ℕ) → State → State
-withSides x s = record { cells = s .cells; events = s .events; boxes = s .boxes; sides = x; objects = s .objects; wants = s .wants; loaded = s .loaded; timers = s .timers; hand = s .hand }
+withSides x s = record { cells = s .cells; marks = s .marks; events = s .events; boxes = s .boxes; sides = x; objects = s .objects; wants = s .wants; loaded = s .loaded; timers = s .timers; hand = s .hand }
 
 abbrev pub withObjects : Objects → State → State
-withObjects x s = record { cells = s .cells; events = s .events; boxes = s .boxes; sides = s .sides; objects = x; wants = s .wants; loaded = s .loaded; timers = s .timers; hand = s .hand }
+withObjects x s = record { cells = s .cells; marks = s .marks; events = s .events; boxes = s .boxes; sides = s .sides; objects = x; wants = s .wants; loaded = s .loaded; timers = s .timers; hand = s .hand }
 
 abbrev pub withWants : List ℕ → State → State
-withWants x s = record { cells = s .cells; events = s .events; boxes = s .boxes; sides = s .sides; objects = s .objects; wants = x; loaded = s .loaded; timers = s .timers; hand = s .hand }
+withWants x s = record { cells = s .cells; marks = s .marks; events = s .events; boxes = s .boxes; sides = s .sides; objects = s .objects; wants = x; loaded = s .loaded; timers = s .timers; hand = s .hand }
 
 abbrev pub withLoaded : List ℕ → State → State
-withLoaded x s = record { cells = s .cells; events = s .events; boxes = s .boxes; sides = s .sides; objects = s .objects; wants = s .wants; loaded = x; timers = s .timers; hand = s .hand }
+withLoaded x s = record { cells = s .cells; marks = s .marks; events = s .events; boxes = s .boxes; sides = s .sides; objects = s .objects; wants = s .wants; loaded = x; timers = s .timers; hand = s .hand }
 
 abbrev pub withTimers : Timers → State → State
-withTimers x s = record { cells = s .cells; events = s .events; boxes = s .boxes; sides = s .sides; objects = s .objects; wants = s .wants; loaded = s .loaded; timers = x; hand = s .hand }
+withTimers x s = record { cells = s .cells; marks = s .marks; events = s .events; boxes = s .boxes; sides = s .sides; objects = s .objects; wants = s .wants; loaded = s .loaded; timers = x; hand = s .hand }
 
 abbrev pub withHand : Hand → State → State
-withHand x s = record { cells = s .cells; events = s .events; boxes = s .boxes; sides = s .sides; objects = s .objects; wants = s .wants; loaded = s .loaded; timers = s .timers; hand = x }
+withHand x s = record { cells = s .cells; marks = s .marks; events = s .events; boxes = s .boxes; sides = s .sides; objects = s .objects; wants = s .wants; loaded = s .loaded; timers = s .timers; hand = x }
 
 abbrev pub withHolds : List ℕ → State → State
 withHolds x s = withEvents (record { signals = s .events .signals; sizes = s .events .sizes; holds = x }) s

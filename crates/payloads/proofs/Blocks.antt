@@ -19,6 +19,7 @@ use Rattle.machine.specs.Reply.{FORM, AREA, RANGE, DRY, lowest}
 use Rattle.machine.specs.State.{State, sizeIn}
 use Rattle.pool.specs.Cell.{Cell, handedOut}
 use Rattle.pool.specs.Laws.{found-lowest, pool-end}
+use Rattle.pool.specs.Mark.{marksAfter}
 use Rattle.pool.specs.Row.{changed, found, poolFor, afterTake}
 use Rattle.pool.specs.declared.Found.the-variants.{At, Nothing}
 
@@ -54,6 +55,10 @@ module _ (s : State) (spoilt : Bool) (l : List ℕ) (g n x y : ℕ) (e : x ≡ g
 pub taken-row : (s t : List Cell) (n b : ℕ) → At b ≡ found s n → t ≡ afterTake s (found s n) → t ≡ changed handedOut s b
 unfolding afterTake
 taken-row s t n b e f = f ∙ rw (← e) refl
+
+pub taken-marks : (s : List Cell) (m t : List ℕ) (size n b : ℕ) → At b ≡ found s size → size ≡ n → t ≡ marksAfter s m (poolFor size) (found s size) →
+    t ≡ marksAfter s m (poolFor n) (At b)
+taken-marks s m t size n b e same f = rw (← same, e) f
 
 -- no block holds more than 64 bytes
 capacity-most : (b : ℕ) → capacity b ≤ mostBytes

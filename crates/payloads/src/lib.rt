@@ -10,8 +10,9 @@ ghost use Rattle.machine.specs.Events.{newEvent, newIn, payloadOf, readAt, read
 ghost use Rattle.machine.specs.Numbers.{placeOf, blocks, mostBytes, payloadBytes};
 ghost use Rattle.machine.specs.Reply.{lowest};
 ghost use Rattle.pool.specs.Cell.{handedOut};
-ghost use Rattle.pool.specs.Row.{changed};
-ghost use Rattle.pool.specs.View.{cells};
+ghost use Rattle.pool.specs.Mark.{markOf, marksAfter};
+ghost use Rattle.pool.specs.Row.{changed, poolFor};
+ghost use Rattle.pool.specs.View.{cells, marks};
 ghost use Rattle.pool.specs.declared.Found.the-variants.{At};
 ghost use Rattle.state.specs.View.{answered, areas, Good, stateOf};
 use ground::wide;
@@ -35,6 +36,7 @@ pub struct Part {
 // The event in block b, which the pool has handed out: its signal, its size, no holds.
 fn new_event(mut k: Kernel, pool: Pool, b: usize, g: u8, size: u8) -> Kernel
     requires { ⌜ (b < blocks) × (cells pool ≡ changed handedOut (cells (k .pool)) b) ⌝ }
+    requires { ⌜ marks pool ≡ marksAfter (cells (k .pool)) (marks (k .pool)) (poolFor size) (At b) ⌝ }
     ensures { λ r. ⌜ stateOf r ≡ newEvent (stateOf k) b g size ⌝ }
 {
     k.pool = pool;
@@ -44,17 +46,19 @@ fn new_event(mut k: Kernel, pool: Pool, b: usize, g: u8, size: u8) -> Kernel
     k
 }
 
-// What NEW does with block b.
+// What NEW does with block b, which leaves its pool the mark.
 fn new_in(
     k: Kernel,
     pool: Pool,
     b: usize,
+    mark: u8,
     g: u8,
     size: u8,
     payload: &[u8],
     payloads: &mut [u8],
 ) -> Answered
     requires { ⌜ (b < blocks) × (size ≤ length (now payload)) × (length (now payloads) ≡ payloadBytes) × (cells pool ≡ changed handedOut (cells (k .pool)) b) ⌝ }
+    requires { ⌜ (marks pool ≡ marksAfter (cells (k .pool)) (marks (k .pool)) (poolFor size) (At b)) × (mark ≡ markOf (marks pool) (poolFor size)) ⌝ }
     ensures { λ r. ⌜ ((t l : List ℕ) → answered r (areas (now (payloads .exit)) t l)
         ≡ newIn (At b) g size (now (payload .entry)) (stateOf k) (areas (now (payloads .entry)) t l)) ⌝ }
 {
@@ -63,7 +67,7 @@ fn new_in(
     let generation = pool::generation(k.pool, b);
     Answered {
         kernel: new_event(k, pool, b, g, size),
-        reply: reply::done(b as u8, generation),
+        reply: reply::made(b as u8, generation, mark),
     }
 }
 
@@ -91,7 +95,7 @@ pub fn new(
             if no != 0 {
                 return refuse(k, no);
             }
-            new_in(k, taken.pool, b, g, size, payload, payloads)
+            new_in(k, taken.pool, b, taken.mark, g, size, payload, payloads)
         }
     }
 }

@@ -8,10 +8,12 @@ use lib.ListN.{length, getD, set}
 use lib.Seq.{ext-getD, getD-set-same, getD-set-other, set-out, set-getD}
 use Rattle.bits.specs.Laws.{first-same, put-here, put-other}
 use Rattle.bits.specs.Members.{put}
-use Rattle.ground.specs.Range.{firstFrom, tab}
+use Rattle.ground.specs.Counting.{count-same}
+use Rattle.ground.specs.Range.{countFrom, firstFrom, tab}
 use Rattle.ground.specs.Tab.{length-tab, getD-tab, getD-tab-out, tab-set}
 use Rattle.pool.specs.Cell.{Cell, live, absent}
 use Rattle.pool.specs.Inside.{cellAt, cellOf, freed, rowOf}
+use Rattle.pool.specs.Mark.{freeIn}
 use Rattle.pool.specs.Promise.{Frees}
 use Rattle.pool.specs.Row.{at, blocks, changed, generationAt, lowestFree}
 use Rattle.pool.specs.declared.Span.{Span}
@@ -36,6 +38,11 @@ module _ (gens counts : List ℕ) (frees : ℕ → Bool) where
   pub lowest-free : (pool : Span) → pool .to ≤ blocks → firstFrom frees (pool .from) (pool .to - pool .from) ≡ lowestFree row pool
   unfolding lowestFree
   lowest-free pool h = first-same frees _ (pool .from) (pool .to - pool .from) (λ j l g. sym (rw (at-in j (omega arith)) (free-is _ _ _)))
+
+  -- the number of free blocks is the number of members
+  pub free-in : (pool : Span) → pool .to ≤ blocks → countFrom frees (pool .from) (pool .to - pool .from) ≡ freeIn row pool
+  unfolding freeIn
+  free-in pool h = count-same frees _ (pool .from) (pool .to - pool .from) (λ j l g. sym (rw (at-in j (omega arith)) (free-is _ _ _)))
 
   pub generations-are : length gens ≡ blocks → gens ≡ tab (generationAt row) blocks
   unfolding generationAt

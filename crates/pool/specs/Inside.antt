@@ -1,4 +1,4 @@
--- How a pool's two arrays and its set of free blocks stand for a row. For this crate's proofs alone: no other crate names this file.
+-- How a pool's fields stand for a row and for marks. For this crate's proofs alone: no other crate names this file.
 use mathlib.Core.Bool.{Bool, true, false}
 use mathlib.Core.List.{List}
 use mathlib.Core.Path.{_≡_}
@@ -23,6 +23,9 @@ rowOf gens counts frees = tab (cellAt gens counts frees) blocks
 
 unfoldable pub cells : Pool → List Cell
 cells p = rowOf (p .gens) (p .counts) (members (p .free))
+
+unfoldable pub marks : Pool → List ℕ
+marks p = p .marks
 
 -- What freeing makes of any block.
 unfoldable pub freed : Cell → Cell

@@ -1,15 +1,21 @@
-// The block pool: 56 blocks in three pools, each with a generation and a count of references, and the set of those that are free. What
-// stands above relies on the promises alone, which speak of `cells p`, the row of blocks that a pool stands for.
+// The block pool: 56 blocks in three pools, each with a generation and a count of references, the set of those that are free, and the
+// mark of each pool, its least number of free blocks so far. What stands above relies on the promises alone, which speak of `cells p`,
+// the row of blocks that a pool stands for, and of `marks p`.
+ghost use mathlib.Core.Bool.{cond};
 ghost use mathlib.Core.Path.{_≡_};
 ghost use mathlib.Core.List.{List};
-ghost use Prim.Native.Nat.{ℕ, _<_};
+ghost use Prim.Native.Nat.{ℕ, _-_, _<_, _≤_};
+ghost use lib.Dec.{ltb};
 ghost use lib.ListN.{length};
-ghost use Rattle.bits.specs.Members.{members};
-ghost use Rattle.ground.specs.Range.{tab};
+ghost use Rattle.bits.specs.Members.{members, width};
+ghost use Rattle.ground.specs.Range.{countFrom, tab};
 ghost use Rattle.pool.specs.Cell.{isNew, atLast, nextGeneration, more, fewer, dropped};
-ghost use Rattle.pool.specs.Inside.{cells, freed, rowOf, Sized};
+ghost use Rattle.pool.specs.Inside.{cells, freed, marks, rowOf, Sized};
+ghost use Rattle.pool.specs.Mark.{freshMarks};
 ghost use Rattle.pool.specs.Promise.{Takes, Frees};
 ghost use Rattle.pool.specs.Row.{changed, freshRow, generationAt, staleAt, poolFor, goneAll, blocks};
+use ground::byte_at;
+use ground::least;
 use ground::wide;
 use numbers::BLOCKS;
 use numbers::LARGE;
@@ -30,16 +36,23 @@ const MOST: u16 = 65534;
 // The set of all blocks.
 const ALL: u64 = (1u64 << BLOCKS) - 1;
 
+const POOLS: usize = 3;
+
+// The number of blocks of each pool.
+const SIZES: [u8; POOLS] = [MIDDLE as u8, (LARGE - MIDDLE) as u8, (BLOCKS - LARGE) as u8];
+
 // The set alone says which blocks are free; the count of a free block says nothing.
 #[repr(C)]
 pub struct Pool {
     free: u64,
     gens: [u8; BLOCKS],
     counts: [u16; BLOCKS],
+    marks: [u8; POOLS],
 }
 
-// The blocks from `from` up to, not including, `to`.
+// A pool by its number: the blocks from `from` up to, not including, `to`.
 pub struct Span {
+    pub number: usize,
     pub from: usize,
     pub to: usize,
 }
@@ -52,6 +65,7 @@ pub enum Found {
 pub struct Taken {
     pub pool: Pool,
     pub found: Found,
+    pub mark: u8,
 }
 
 pub struct Gone {
@@ -62,11 +76,13 @@ pub struct Gone {
 // Every block free, at generation 0.
 pub fn fresh() -> Pool
     ensures { λ r. ⌜ cells r ≡ freshRow ⌝ }
+    ensures { λ r. ⌜ marks r ≡ freshMarks ⌝ }
 {
     Pool {
         free: ALL,
         gens: [0u8; BLOCKS],
         counts: [NEW; BLOCKS],
+        marks: SIZES,
     }
 }
 
@@ -76,54 +92,73 @@ fn pool_for(size: usize) -> Span
 {
     if size <= SMALL_BYTES {
         return Span {
+            number: 0,
             from: 0,
             to: MIDDLE,
         };
     }
     if size <= MIDDLE_BYTES {
         return Span {
+            number: 1,
             from: MIDDLE,
             to: LARGE,
         };
     }
     if size <= LARGE_BYTES {
         return Span {
+            number: 2,
             from: LARGE,
             to: BLOCKS,
         };
     }
     Span {
+        number: POOLS,
         from: BLOCKS,
         to: BLOCKS,
     }
 }
 
-// The lowest free block of the first pool that is large enough is handed out: live, with no reference.
+// The mark of a pool once these blocks are free, where it was `mark`.
+fn lowered(mark: u8, free: u64, from: usize, to: usize) -> u8
+    requires { ⌜ to ≤ width ⌝ }
+    ensures { λ r. ⌜ (let left = countFrom (members free) from (to - from) in r ≡ cond (ltb left mark) left mark) ⌝ }
+{
+    least(bits::count(free, from, to), wide(mark)) as u8
+}
+
+// The lowest free block of the first pool that is large enough is handed out: live, with no reference. The pool's mark is answered.
 pub fn take(p: Pool, size: usize) -> Taken
-    ensures { λ r. ⌜ Takes (cells p) size (cells (r .pool)) (r .found) ⌝ }
+    ensures { λ r. ⌜ Takes (cells p) (marks p) size (cells (r .pool)) (marks (r .pool)) (r .found) (r .mark) ⌝ }
 {
     let span = pool_for(size);
+    let number = span.number;
     let from = span.from;
     let to = span.to;
     let mut q = p;
     let b = bits::lowest(q.free, from, to);
     if to <= b {
+        let marks = q.marks;
         return Taken {
             pool: q,
             found: Found::Nothing,
+            mark: byte_at(&marks, number),
         };
     }
     q.counts[b] = NEW;
     q.free = bits::without(q.free, b);
+    let mark = lowered(q.marks[number], q.free, from, to);
+    q.marks[number] = mark;
     Taken {
         pool: q,
         found: Found::At(b),
+        mark: mark,
     }
 }
 
 // One reference more to a live block.
 pub fn add(p: Pool, b: usize) -> Pool
     ensures { λ r. ⌜ cells r ≡ changed more (cells p) b ⌝ }
+    ensures { λ r. ⌜ marks r ≡ marks p ⌝ }
 {
     let mut q = p;
     if BLOCKS <= b {
@@ -185,13 +220,20 @@ fn let_go_in(gens: &mut [u8; BLOCKS], counts: &mut [u16; BLOCKS], free: &mut u64
 // One reference fewer; the last one frees the block.
 pub fn let_go(p: Pool, b: usize) -> Gone
     ensures { λ r. ⌜ Frees fewer atLast (cells p) b (cells (r .pool)) (r .freed) ⌝ }
+    ensures { λ r. ⌜ marks (r .pool) ≡ marks p ⌝ }
 {
     let mut gens = p.gens;
     let mut counts = p.counts;
     let mut free = p.free;
+    let marks = p.marks;
     let freed = let_go_in(&mut gens, &mut counts, &mut free, b);
     Gone {
-        pool: Pool { free, gens, counts },
+        pool: Pool {
+            free,
+            gens,
+            counts,
+            marks,
+        },
         freed: freed,
     }
 }
@@ -199,21 +241,29 @@ pub fn let_go(p: Pool, b: usize) -> Gone
 // Each block of a list has a reference fewer, in order.
 pub fn let_go_all(p: Pool, list: &[u8]) -> Pool
     ensures { λ r. ⌜ cells r ≡ goneAll (cells p) (now (list .entry)) ⌝ }
+    ensures { λ r. ⌜ marks r ≡ marks p ⌝ }
 {
     let mut gens = p.gens;
     let mut counts = p.counts;
     let mut free = p.free;
+    let marks = p.marks;
     let mut i = 0;
     while i < list.len() {
         let_go_in(&mut gens, &mut counts, &mut free, wide(list[i]));
         i += 1;
     }
-    Pool { free, gens, counts }
+    Pool {
+        free,
+        gens,
+        counts,
+        marks,
+    }
 }
 
 // A block that has no reference yet is freed.
 pub fn drop_new(p: Pool, b: usize) -> Gone
     ensures { λ r. ⌜ Frees dropped isNew (cells p) b (cells (r .pool)) (r .freed) ⌝ }
+    ensures { λ r. ⌜ marks (r .pool) ≡ marks p ⌝ }
 {
     if BLOCKS <= b {
         return Gone {
@@ -231,9 +281,15 @@ pub fn drop_new(p: Pool, b: usize) -> Gone
         let mut gens = p.gens;
         let counts = p.counts;
         let mut free = p.free;
+        let marks = p.marks;
         set_free(&mut gens, &mut free, b);
         return Gone {
-            pool: Pool { free, gens, counts },
+            pool: Pool {
+                free,
+                gens,
+                counts,
+                marks,
+            },
             freed: true,
         };
     }

@@ -1,14 +1,13 @@
 // The 24 bytes of every reply.
-ghost use mathlib.Core.Bool.{cond};
 ghost use mathlib.Core.Path.{_≡_};
 ghost use Prim.Native.Nat.{_≤_, _<_};
-ghost use lib.Dec.{ltb};
 ghost use lib.ListN.{length, getD};
 ghost use Rattle.chart.specs.Numbers.{rowSize};
 ghost use Rattle.machine.specs.Numbers.{mostBytes, signalPlaces};
 ghost use Rattle.machine.specs.Reply.{no, badChart, replyOf};
 ghost use Rattle.machine.specs.Reply as said;
 use ground::fill;
+use ground::least;
 use numbers::ACTIONS_IN_ROW;
 use numbers::MOST_ACTIONS;
 use numbers::REPLY_BYTES;
@@ -58,6 +57,17 @@ pub fn done(v: u8, w: u8) -> [u8; REPLY_BYTES]
     r
 }
 
+// The answer of NEW: the handle, and the pool's mark.
+pub fn made(b: u8, generation: u8, mark: u8) -> [u8; REPLY_BYTES]
+    ensures { λ r. ⌜ r ≡ replyOf (said.made b generation mark) ⌝ }
+{
+    let mut r = [0u8; REPLY_BYTES];
+    r[COUNT] = mark;
+    r[FIRST_VALUE] = b;
+    r[SECOND_VALUE] = generation;
+    r
+}
+
 // The answer of START and NEXT: object p took the row with the signal g.
 pub fn ran(p: u8, g: u8, v: u8, w: u8, row: &[u8]) -> [u8; REPLY_BYTES]
     requires { ⌜ (length (now row) ≡ rowSize) × (getD (now row) 1 0 ≤ 2) × (g < signalPlaces) ⌝ }
@@ -74,12 +84,6 @@ pub fn ran(p: u8, g: u8, v: u8, w: u8, row: &[u8]) -> [u8; REPLY_BYTES]
     r[FIRST_VALUE] = v;
     r[SECOND_VALUE] = w;
     r
-}
-
-fn least(a: usize, b: usize) -> usize
-    ensures { λ r. ⌜ (r ≡ cond (ltb a b) a b) × (r ≤ b) ⌝ }
-{
-    if a < b { a } else { b }
 }
 
 // The answer of READ: the payload's length, and as much of it as there is room for.

@@ -32,6 +32,9 @@ module _ (k : Kernel) (vs : List Val) (h : Is (row the-type) k vs) where
     heads = rw side-rings (sym (length-map (k .«side_heads») (λ v. v)) ∙ h .1 .1 .1 .1 .1 .1 .1 .1 .1 .1 .0 .1 .0 .1);
   }
 
+  pub depths-length : length (k .depths) ≡ objects
+  depths-length = sym (length-map (k .depths) (λ v. v)) ∙ h .1 .1 .1 .1 .1 .1 .1 .1 .1 .1 .1 .1 .0 .1 .0 .1
+
   -- every object has a mailbox
   pub box-of : (p : ℕ) → 1 ≤ p → p ≤ objects → p - 1 < length (k .counts)
   box-of p low high = omega (arith, rings)

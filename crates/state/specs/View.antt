@@ -6,13 +6,14 @@ use Rattle.machine.specs.Reply.{Areas, Answer}
 use Rattle.machine.specs.State.{State}
 use Rattle.mail.specs.Entry.{handOf}
 use Rattle.mail.specs.View.{boxes}
-use Rattle.pool.specs.View.{cells}
+use Rattle.pool.specs.View.{cells, marks}
 use Rattle.state.specs.declared.Answered.{Answered}
 use Rattle.state.specs.declared.Kernel.{Kernel}
 
 unfoldable pub stateOf : Kernel → State
 stateOf k = record {
   cells = cells (k .pool);
+  marks = marks (k .pool);
   events = record { signals = k .signals; sizes = k .sizes; holds = k .holds };
   boxes = boxes (k .places) (k .heads) (k .counts);
   sides = boxes (k .«side_places») (k .«side_heads») (k .«side_counts»);

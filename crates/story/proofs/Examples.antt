@@ -11,7 +11,7 @@ use lib.Dec.{eqb}
 use lib.ListN.{length, getD, take, replicate, length-replicate}
 use Rattle.ground.specs.Bools.{and-left, and-right}
 use Rattle.ground.specs.Bytes.{blank, padded}
-use Rattle.ground.specs.Range.{firstFrom, everyFrom}
+use Rattle.ground.specs.Range.{countFrom, firstFrom, everyFrom}
 use Rattle.chart.specs.Chart
 use Rattle.chart.specs.Flat
 use Rattle.chart.specs.Chart.{classOf}
@@ -21,6 +21,7 @@ use Rattle.mail.specs.Box
 use Rattle.mail.specs.Entry
 use Rattle.pool.specs.Cell
 use Rattle.pool.specs.Cell.{Cell, free, live, isFree}
+use Rattle.pool.specs.Mark
 use Rattle.pool.specs.Row
 use Rattle.pool.specs.Row.{at}
 use Rattle.machine.specs.Aside
@@ -131,7 +132,7 @@ expected : List Seen
 expected =
     sees (0 ∷ 0 ∷ 0 ∷ 0 ∷ 5 ∷ []) (free 0) 0 0
     ∷ sees (0 ∷ 9 ∷ 64 ∷ 4 ∷ 0 ∷ 0 ∷ 10 ∷ 11 ∷ 13 ∷ 21 ∷ []) (free 0) 0 2
-    ∷ sees [] (live 0 0) 0 2
+    ∷ sees (0 ∷ 0 ∷ 0 ∷ 31 ∷ []) (live 0 0) 0 2
     ∷ sees (0 ∷ 0 ∷ 0 ∷ 0 ∷ 1 ∷ []) (live 0 1) 1 2
     ∷ sees (0 ∷ 0 ∷ 0 ∷ 0 ∷ 1 ∷ []) (live 0 2) 2 2
     ∷ sees (0 ∷ 9 ∷ 70 ∷ 4 ∷ 0 ∷ 0 ∷ 26 ∷ 22 ∷ 31 ∷ 41 ∷ []) (live 0 2) 2 4
@@ -139,12 +140,12 @@ expected =
     ∷ sees (0 ∷ 0 ∷ 0 ∷ 1 ∷ 1 ∷ 0 ∷ 77 ∷ []) (live 0 1) 1 4
     ∷ sees (0 ∷ 0 ∷ 0 ∷ 0 ∷ 0 ∷ 1 ∷ []) (free 1) 0 4
     ∷ sees (7 ∷ []) (free 1) 0 4
-    ∷ sees (0 ∷ 0 ∷ 0 ∷ 0 ∷ 0 ∷ 1 ∷ []) (live 1 0) 0 4
+    ∷ sees (0 ∷ 0 ∷ 0 ∷ 31 ∷ 0 ∷ 1 ∷ []) (live 1 0) 0 4
     ∷ sees (0 ∷ 0 ∷ 0 ∷ 0 ∷ 1 ∷ []) (live 1 1) 1 4
     ∷ sees (0 ∷ 0 ∷ 0 ∷ 0 ∷ 1 ∷ 1 ∷ []) (free 2) 0 4
-    ∷ sees (0 ∷ 0 ∷ 0 ∷ 0 ∷ 0 ∷ 2 ∷ []) (live 2 0) 0 4
+    ∷ sees (0 ∷ 0 ∷ 0 ∷ 31 ∷ 0 ∷ 2 ∷ []) (live 2 0) 0 4
     ∷ sees [] (free 3) 0 4
-    ∷ sees (0 ∷ 0 ∷ 0 ∷ 0 ∷ 0 ∷ 3 ∷ []) (live 3 0) 0 4
+    ∷ sees (0 ∷ 0 ∷ 0 ∷ 31 ∷ 0 ∷ 3 ∷ []) (live 3 0) 0 4
     ∷ sees (0 ∷ 0 ∷ 0 ∷ 0 ∷ 1 ∷ []) (live 3 1) 1 4
     ∷ sees (0 ∷ 9 ∷ 41 ∷ 1 ∷ 0 ∷ 3 ∷ 49 ∷ []) (live 3 1) 1 4
     ∷ sees (0 ∷ 0 ∷ 0 ∷ 0 ∷ 1 ∷ []) (live 3 2) 2 4
@@ -158,12 +159,12 @@ expected =
     ∷ []
 
 computed : run freshState (zeros payloadArea) (zeros tableArea) asks ≡ expected
-unfolding run asks expected padded blank firstFrom everyFrom shift
+unfolding run asks expected padded blank countFrom firstFrom everyFrom shift
     Chart.byte Chart.parent Chart.states Chart.rowFor Chart.path Chart.has Chart.lengthOk Chart.among Chart.isSignal Chart.formOk Chart.formsOk Chart.parentOk Chart.stateOk Chart.treeOk Chart.rowOk Chart.rowsOk Chart.classOf
     Step.listed Step.upTo Step.leave Step.enter Step.firstOf Step.limit Step.settle Step.moved Step.step Step.start Flat.rowOf Flat.rowNo Flat.rowsFrom Flat.slotBytes Flat.place Flat.sound
     Box.changed Box.behind Box.ahead Box.rest Box.bare Box.highestOf Box.total Box.timesIn Entry.entryOf Entry.handOf
     Cell.nextGeneration Cell.isFree Cell.isNew Cell.atLast Cell.generationOf Cell.staleFor Cell.handedOut Cell.more Cell.fewer Cell.dropped
-    Row.generationAt Row.staleAt Row.poolFor Row.lowestFree Row.foundIn
+    Row.generationAt Row.staleAt Row.poolFor Row.lowestFree Row.foundIn Mark.freeIn Mark.markWith Mark.marksAfter
     Inv.inHand Inv.references Numbers.outside Numbers.capacity Numbers.placeOf State.isOpen
     Reply.bytes Reply.replyOf Reply.lowest Reply.unless Reply.unlessFault Reply.over
     Machine.spoilt Machine.spoiltNew Machine.choose Machine.command Machine.answerTo

@@ -11,6 +11,7 @@ use Rattle.mail.specs.View.{Mail, boxes}
 unfoldable pub timing : (places heads counts counters depths owners alarms intervals : List ℕ) → State → State
 timing places heads counts counters depths owners alarms intervals s = record {
   cells = s .cells;
+  marks = s .marks;
   events = s .events;
   boxes = boxes places heads counts;
   sides = s .sides;

@@ -98,6 +98,7 @@ mod tests {
     use crate::kernel::reply::Refusal;
     use crate::kernel::Kernel;
     use std::collections::BTreeSet;
+    use std::ops::RangeInclusive;
 
     #[test]
     fn the_replies_are_those_of_a_replay() {
@@ -179,6 +180,44 @@ mod tests {
             }
         }
         assert_eq!(seen.len(), 7, "{seen:?}");
+    }
+
+    /// The blocks of each pool.
+    const POOLS: [RangeInclusive<u8>; 3] = [0..=31, 32..=47, 48..=55];
+
+    fn pool_of(block: u8) -> usize {
+        let pool = POOLS.iter().position(|blocks| blocks.contains(&block));
+        pool.expect("each block is in a pool")
+    }
+
+    /// How many blocks of each pool are free.
+    fn free_blocks(kernel: &Kernel) -> [usize; 3] {
+        let is_free = |block: &u8| kernel.is_stale(kernel.handle(*block));
+        POOLS.map(|blocks| blocks.filter(is_free).count())
+    }
+
+    /// Told from the whole trace: the free blocks are counted after each command.
+    #[test]
+    fn a_mark_is_the_least_number_of_free_blocks_so_far() {
+        let mut seen = BTreeSet::new();
+        for seed in 0..60 {
+            let trace = Trace::random(seed, 500);
+            let mut program = Program::fresh(trace.charts.clone());
+            let mut least = free_blocks(program.kernel());
+            for (record, reply) in trace.exchanges() {
+                program.answer(record);
+                let free = free_blocks(program.kernel());
+                let before = least;
+                least = std::array::from_fn(|pool| before[pool].min(free[pool]));
+                if let (Some(Command::New { .. }), 0) = (Command::read(record), reply[0]) {
+                    let pool = pool_of(reply[4]);
+                    assert_eq!(usize::from(reply[3]), least[pool]);
+                    seen.insert((pool, free[pool].cmp(&before[pool])));
+                }
+            }
+        }
+        // In each pool fewer free blocks than ever before, as few, and more.
+        assert_eq!(seen.len(), 9, "{seen:?}");
     }
 
     /// DRAIN is NEXT and END, so a trace with these in its place ends in the same state.

@@ -116,23 +116,26 @@ impl Kernel {
     fn start(&mut self, p: u8, slot: u8, depth: u8, tables: &[u8]) -> Reply {
         let row = Row::read(tables, Self::start_row_place(slot));
         self.objects.insert(p, Object::new(slot, row.next, depth));
-        Reply {
+        let started = Reply {
             object: p,
             outcome: row.outcome,
-            actions: row.actions,
             ..Reply::default()
-        }
+        };
+        started.with_actions(&row.actions)
     }
 
     fn new_event(&mut self, signal: u8, payload: &[u8], payloads: &mut [u8]) -> Reply {
         let size = payload.len() as u8;
         let block = self.pool.lowest_free(size).expect("a block is free");
-        self.pool.fill(block, signal, size);
+        let mark = self.pool.fill(block, signal, size);
         let (used, unused) = payloads[pool::place(block)].split_at_mut(payload.len());
         used.copy_from_slice(payload);
         unused.fill(0);
         let handle = self.pool.handle(block);
-        Reply::values(handle.block, handle.generation)
+        Reply {
+            count: mark,
+            ..Reply::values(handle.block, handle.generation)
+        }
     }
 
     fn publish(&mut self, block: u8) -> Reply {
@@ -152,14 +155,14 @@ impl Kernel {
         object.remove_front();
         object.rest = row.next;
         self.in_hand = Some(event);
-        Reply {
+        let stepped = Reply {
             object: p,
             outcome: row.outcome,
             signal: self.signal_of(event),
             values: self.handle_bytes(event),
-            actions: row.actions,
             ..Reply::default()
-        }
+        };
+        stepped.with_actions(&row.actions)
     }
 
     /// Lets go the event in hand; whether that freed it.
@@ -173,10 +176,7 @@ impl Kernel {
     fn read(&self, handle: Handle, payloads: &[u8]) -> Reply {
         let payload = &payloads[self.payload_place(handle.block)];
         let shown = payload.len().min(MOST_ACTIONS);
-        Reply {
-            actions: payload[..shown].to_vec(),
-            ..Reply::value(payload.len() as u8)
-        }
+        Reply::value(payload.len() as u8).with_actions(&payload[..shown])
     }
 
     fn drain(&mut self, budget: u8, areas: &mut Areas) -> Reply {

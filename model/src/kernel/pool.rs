@@ -1,4 +1,4 @@
-//! The pools of blocks: which are free, their generations, and what the others hold.
+//! The pools of blocks: which are free, how few were, their generations, and what the others hold.
 
 use super::command::Handle;
 use super::numbers::BLOCKS;
@@ -25,12 +25,15 @@ struct Block {
 #[derive(Clone, Debug, PartialEq, Eq)]
 pub struct Pool {
     blocks: Vec<Block>,
+    /// Of each pool the least number of free blocks that it has had since the fresh start.
+    marks: [u8; POOLS.len()],
 }
 
 impl Pool {
     pub fn fresh() -> Self {
         Pool {
             blocks: BLOCKS.map(|_| Block::default()).collect(),
+            marks: POOLS.map(|(blocks, _)| blocks.len() as u8),
         }
     }
 
@@ -40,13 +43,29 @@ impl Pool {
         blocks.clone().find(|&block| self.content(block).is_none())
     }
 
-    /// Puts a new event in a free block. The generation moved when the block was freed.
-    pub fn fill(&mut self, block: u8, signal: u8, size: u8) {
+    /// Puts a new event in a free block; the mark of the block's pool, this block counted as taken.
+    /// The generation moved when the block was freed.
+    pub fn fill(&mut self, block: u8, signal: u8, size: u8) -> u8 {
         self.block_mut(block).content = Some(Content {
             signal,
             size,
             holds: 0,
         });
+        self.lower_mark(pool_of(block))
+    }
+
+    /// Called for each block taken and nowhere else: nothing else makes the free ones fewer.
+    fn lower_mark(&mut self, pool: usize) -> u8 {
+        let mark = self.marks[pool].min(self.free_blocks(pool));
+        self.marks[pool] = mark;
+        mark
+    }
+
+    /// Counted anew each time, so that no counter can go astray.
+    fn free_blocks(&self, pool: usize) -> u8 {
+        let (blocks, _) = POOLS[pool].clone();
+        let free = blocks.filter(|&block| self.content(block).is_none());
+        free.count() as u8
     }
 
     pub fn free(&mut self, block: u8) {
@@ -91,9 +110,14 @@ pub fn place(block: u8) -> Range<usize> {
 }
 
 fn block_bytes(block: u8) -> usize {
-    let pool = POOLS.iter().find(|(blocks, _)| blocks.contains(&block));
-    let (_, bytes) = pool.expect("each block is in a pool");
-    usize::from(*bytes)
+    let (_, bytes) = POOLS[pool_of(block)];
+    usize::from(bytes)
+}
+
+/// The number of the pool that has the block.
+fn pool_of(block: u8) -> usize {
+    let pool = POOLS.iter().position(|(blocks, _)| blocks.contains(&block));
+    pool.expect("each block is in a pool")
 }
 
 #[cfg(test)]
@@ -149,6 +173,18 @@ mod tests {
         }
         assert_eq!(pool.lowest_free(16), None);
         assert_eq!(pool.lowest_free(17), Some(32));
+    }
+
+    #[test]
+    fn the_mark_stays_where_the_pool_was_lowest() {
+        let mut pool = Pool::fresh();
+        assert_eq!(pool.fill(48, 4, 64), 7);
+        assert_eq!(pool.fill(49, 4, 64), 6);
+        pool.free(48);
+        pool.free(49);
+        assert_eq!(pool.fill(48, 4, 64), 6);
+        assert_eq!(pool.fill(32, 4, 32), 15);
+        assert_eq!(pool.fill(0, 4, 16), 31);
     }
 
     #[test]

@@ -36,8 +36,10 @@ pub struct Reply {
     pub object: u8,
     pub outcome: u8,
     pub signal: u8,
+    /// How many actions there are; NEW has none and shows its pool's mark here.
+    pub count: u8,
     pub values: [u8; 2],
-    /// READ shows payload bytes here; the count is their number.
+    /// READ shows payload bytes here.
     pub actions: Vec<u8>,
 }
 
@@ -62,16 +64,27 @@ impl Reply {
         }
     }
 
+    /// The reply with these actions and their count.
+    pub fn with_actions(self, actions: &[u8]) -> Self {
+        assert!(
+            actions.len() <= MOST_ACTIONS,
+            "a reply has room for 18 actions"
+        );
+        Reply {
+            count: actions.len() as u8,
+            actions: actions.to_vec(),
+            ..self
+        }
+    }
+
     pub fn bytes(&self) -> [u8; REPLY_BYTES] {
-        let count = self.actions.len();
-        assert!(count <= MOST_ACTIONS, "a reply has room for 18 actions");
         let mut bytes = [0; REPLY_BYTES];
         bytes[0] = self.number;
         bytes[1] = self.object;
         bytes[2] = self.outcome * 32 + self.signal;
-        bytes[3] = count as u8;
+        bytes[3] = self.count;
         bytes[4..6].copy_from_slice(&self.values);
-        bytes[6..6 + count].copy_from_slice(&self.actions);
+        bytes[6..6 + self.actions.len()].copy_from_slice(&self.actions);
         bytes
     }
 }
@@ -87,12 +100,15 @@ mod tests {
             object: 16,
             outcome: 2,
             signal: 31,
+            count: 32,
             values: [7, 8],
-            actions: vec![1, 2, 3],
+            actions: Vec::new(),
         };
         let mut expected = [0; REPLY_BYTES];
-        expected[..9].copy_from_slice(&[0, 16, 95, 3, 7, 8, 1, 2, 3]);
+        expected[..6].copy_from_slice(&[0, 16, 95, 32, 7, 8]);
         assert_eq!(reply.bytes(), expected);
+        expected[..9].copy_from_slice(&[0, 16, 95, 3, 7, 8, 1, 2, 3]);
+        assert_eq!(reply.with_actions(&[1, 2, 3]).bytes(), expected);
     }
 
     #[test]

@@ -36,7 +36,7 @@ unfolding stateOf
 returns c =
     let s = c .before .before .before .before .before .before .before .before .before .before .before .before .before .before in
     let a = s .args in
-    rw (c .let-go-all .ensures, c .before .before .before .before .empty .ensures (a .k .«side_places») (a .k .«side_heads») (sides-of (a .k) _ (s .good .0)) .are)
+    rw (c .let-go-all .ensures .0, c .let-go-all .ensures .1, c .before .before .before .before .empty .ensures (a .k .«side_places») (a .k .«side_heads») (sides-of (a .k) _ (s .good .0)) .are)
     (flushed-is (stateOf (a .k)) (a .q) (a .n) _ (omega (arith, s .pre .0 .store .cells-length)) (c .before .before .before .before .before .before .list-blocks .ensures .0))
 
 pub let-go-aside-spec : {M : Type 1} → statement M

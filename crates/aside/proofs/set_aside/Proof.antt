@@ -20,7 +20,8 @@ returns c =
     let k = s .args .k in
     rw (
       set-aside-is _ (k .hand) (s .args .q) (stateOf k) refl (s .pre .2),
-      c .add .ensures,
+      c .add .ensures .0,
+      c .add .ensures .1,
       c .before .wide .ensures .0,
       c .before .before .block-of .ensures,
       c .before .before .before .hand-of .ensures,

@@ -2,7 +2,7 @@ use borrow.Author.Needs.{needs}
 use mathlib.Core.Path.{_≡_, refl}
 use Prim.Native.Nat.{_-_}
 use native.Mathlib.Omega.{arith}
-use Rattle.bits.specs.Members.{countFrom}
+use Rattle.ground.specs.Range.{countFrom}
 use Rattle.bits.proofs.Bounds.{count-needs}
 use Rattle.bits.proofs.Ranges.{count-is}
 use Rattle.bits.proofs.count.Statement.{statement}

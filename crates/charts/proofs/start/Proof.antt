@@ -4,6 +4,7 @@ use native.Mathlib.Omega.{arith}
 use Rattle.chart.specs.Flat.{sound}
 use Rattle.machine.specs.Charts.{start, startRow, startTests}
 use Rattle.machine.specs.Reply.{lowest}
+use Rattle.state.proofs.Arrays.{depths-length}
 use Rattle.state.specs.View.{areas, answered, stateOf}
 use Rattle.state.proofs.Glue.{refusal, doing}
 use Rattle.charts.proofs.Slots.{Startable, start-tests, startable}
@@ -29,6 +30,12 @@ module _ (c : tie.After-start-refusal) where
 
   allowed : c .start-refusal .result ≡ 0 → Startable (entry .args .p) (entry .args .q) (entry .args .depth) (c .before .before .before .before .before .before .start-row .result .now)
   allowed z = startable (entry .args .k) (entry .args .spoilt) (entry .args .p) (entry .args .q) (entry .args .depth) _ (entry .args .tables .now) _ row-is tests-are z
+
+-- among the kernel's fields the search does not reach this length
+slice-aggregate-of-object : tie.Need-slice-aggregate-of-object
+slice-aggregate-of-object c =
+    let s = c .before .before .before .before .before .before in
+    search (needs, depths-length (s .args .k) _ (s .good .0))
 
 returns : tie.Need-returns
 unfolding start
@@ -63,4 +70,4 @@ returns-2 c = λ x l.
 pub start-spec : {M : Type 1} → statement M
 start-spec =
     tie.close
-    (tie.spec (λ c κs. search needs) (λ c κs. search needs) (λ c κs. search needs) (λ c. search needs) (λ c κs. search needs) (λ c κs. search needs) (λ c κs. search needs) (λ c κs. search needs) returns shared-slice-read-started-at started-at-requires cast-ran ran-requires returns-2)
+    (tie.spec (λ c κs. search needs) (λ c κs. search needs) (λ c κs. search needs) slice-aggregate-of-object (λ c κs. search needs) (λ c κs. search needs) (λ c κs. search needs) (λ c κs. search needs) returns shared-slice-read-started-at started-at-requires cast-ran ran-requires returns-2)

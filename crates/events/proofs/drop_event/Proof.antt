@@ -11,7 +11,7 @@ tests-are : (c : tie.After-handle-refusal) →
     let a = c .before .before .before .before .args in
     c .handle-refusal .result ≡ lowest (dropTests (a .spoilt) (a .b) (a .generation) (stateOf (a .k)))
 unfolding dropTests stateOf
-tests-are c = c .handle-refusal .ensures ∙ rw (c .before .before .before .stale .ensures, c .before .before .drop-new .ensures .answer) refl
+tests-are c = c .handle-refusal .ensures ∙ rw (c .before .before .before .stale .ensures, c .before .before .drop-new .ensures .0 .answer) refl
 
 returns : tie.Need-returns
 unfolding dropEvent
@@ -22,7 +22,7 @@ unfolding dropEvent answered stateOf
 returns-2 c =
     let s = c .before .before .before in
     λ z. doing _ _ _ _ z _ (tests-are s) (c .before .before .if1 .left)
-    (rw (c .before .with-pool .ensures, s .before .before .drop-new .ensures .row, c .done .ensures) refl)
+    (rw (c .before .with-pool .ensures, s .before .before .drop-new .ensures .0 .row, s .before .before .drop-new .ensures .1, c .done .ensures) refl)
 
 pub drop-event-spec : {M : Type 1} → statement M
 drop-event-spec = tie.close (tie.spec (λ c κs. search needs) (λ c κs. search needs) (λ c κs. search needs) (λ c κs. search needs) returns (λ c κs. search needs) (λ c κs. search needs) returns-2)

@@ -30,7 +30,7 @@ unfolding hold held answered stateOf
 returns-2 c =
     let s = c .before .before .before .before in
     λ z. doing _ _ _ _ z _ (tests-are s) (c .before .before .before .if1 .left)
-    (rw (c .before .with-holds .ensures, c .before .before .add .ensures, c .done .ensures, s .before .before .byte-at .ensures) refl)
+    (rw (c .before .with-holds .ensures, c .before .before .add .ensures .0, c .before .before .add .ensures .1, c .done .ensures, s .before .before .byte-at .ensures) refl)
 
 pub hold-spec : {M : Type 1} → statement M
 hold-spec =

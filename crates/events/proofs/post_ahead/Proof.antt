@@ -15,7 +15,7 @@ push-front-requires c κs =
 
 returns : tie.Need-returns
 unfolding stateOf postedFront entryOf
-returns c = rw (c .add .ensures, c .before .before .before .before .push-front .ensures .0 .are) refl
+returns c = rw (c .add .ensures .0, c .add .ensures .1, c .before .before .before .before .push-front .ensures .0 .are) refl
 
 pub post-ahead-spec : {M : Type 1} → statement M
 post-ahead-spec = tie.close (tie.spec (λ c. search needs) (λ c. search needs) (λ c. search needs) (λ c. search needs) (λ c. search needs) (λ c. search needs) push-front-requires (λ c κs. search needs) returns)

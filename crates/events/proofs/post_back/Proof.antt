@@ -15,7 +15,7 @@ push-back-requires c κs =
 
 returns : tie.Need-returns
 unfolding stateOf posted entryOf
-returns c = rw (c .add .ensures, c .before .before .before .push-back .ensures .0 .are) refl
+returns c = rw (c .add .ensures .0, c .add .ensures .1, c .before .before .before .push-back .ensures .0 .are) refl
 
 pub post-back-spec : {M : Type 1} → statement M
 post-back-spec = tie.close (tie.spec (λ c. search needs) (λ c. search needs) (λ c. search needs) (λ c. search needs) (λ c. search needs) (λ c. search needs) push-back-requires (λ c κs. search needs) returns)

@@ -14,10 +14,11 @@ returns c =
     λ z. rw (
       ← s .before .receivers .ensures (stateOf (a .k)) refl,
       done-none (a .b) (stateOf (a .k)) z _ (s .if1 .taken),
-      gone .row,
+      gone .0 .row,
+      gone .1,
       c .done .ensures,
       c .before .one .ensures .0,
-      gone .answer,
+      gone .0 .answer,
     ) refl
 
 returns-2 : tie.Need-returns-2

@@ -31,7 +31,7 @@ returns-2 c =
     let s = c .before .before .before .before .before in
     let gone = c .before .before .before .let-go .ensures in
     λ z. doing _ _ _ _ z _ (tests-are s) (c .before .before .before .before .if1 .left)
-    (rw (c .before .before .with-holds .ensures, gone .row, c .done .ensures, c .before .one .ensures .0, gone .answer, s .before .before .byte-at .ensures) refl)
+    (rw (c .before .before .with-holds .ensures, gone .0 .row, gone .1, c .done .ensures, c .before .one .ensures .0, gone .0 .answer, s .before .before .byte-at .ensures) refl)
 
 pub release-spec : {M : Type 1} → statement M
 release-spec =

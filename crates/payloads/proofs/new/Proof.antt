@@ -10,7 +10,7 @@ use Rattle.pool.specs.Row.{found}
 use Rattle.pool.specs.View.{cells}
 use Rattle.pool.specs.declared.Found.the-variants.{At}
 use Rattle.state.specs.View.{areas, stateOf}
-use Rattle.payloads.proofs.Blocks.{tests-none, none-refused, tests-found, found-size, found-allowed, taken-row}
+use Rattle.payloads.proofs.Blocks.{tests-none, none-refused, tests-found, found-size, found-allowed, taken-row, taken-marks}
 use Rattle.state.proofs.Glue.{refusal, writing}
 use Rattle.payloads.proofs.new.Statement.{statement}
 use Rattle.payloads.proofs.new.Tie as tie
@@ -65,7 +65,10 @@ new-in-requires : tie.Need-new-in-requires
 new-in-requires c κs =
     let d = c .before .before in
     let h = allowed d (c .before .if1 .left) in
-    (h .0, omega (arith, h .1, start d .pre), h .2, taken-row _ _ _ _ (is-found d) (d .before .before .before .before .before .take .ensures .row))
+    let take = d .before .before .before .before .before .take .ensures in (
+      (h .0, omega (arith, h .1, start d .pre), h .2, taken-row _ _ _ _ (is-found d) (take .row)),
+      (taken-marks _ _ _ _ _ _ (is-found d) (is-size d) (take .marks), rw (← is-size d) (take .mark)),
+    )
 
 returns-3 : tie.Need-returns-3
 unfolding new

@@ -25,7 +25,7 @@ returns-2 c =
       h .mail,
       (
         λ q. others-stay (t .before .args .counts .now) _ (t .before .args .p - 1) (c .before .push-back .ensures .1) q,
-        λ s. rw (c .add .ensures, h .are, not-false (t .before .args .receives) (t .if1 .left)) refl,
+        λ s. rw (c .add .ensures .0, c .add .ensures .1, h .are, not-false (t .before .args .receives) (t .if1 .left)) refl,
       ),
     )
 

@@ -10,7 +10,7 @@ use Rattle.state.proofs.fresh.Tie as tie
 
 returns : tie.Need-returns
 unfolding stateOf handOf
-returns c = (rw (c .fresh .ensures, boxes-fresh objects, boxes-fresh sideQueues) refl, rw (c .fresh .ensures, boxes-fresh objects, boxes-fresh sideQueues) fresh-inv)
+returns c = (rw (c .fresh .ensures .0, c .fresh .ensures .1, boxes-fresh objects, boxes-fresh sideQueues) refl, rw (c .fresh .ensures .0, c .fresh .ensures .1, boxes-fresh objects, boxes-fresh sideQueues) fresh-inv)
 
 pub fresh-spec : {M : Type 1} → statement M
 fresh-spec = tie.close (tie.spec (λ c κs. search needs) returns)

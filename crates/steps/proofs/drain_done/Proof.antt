@@ -42,7 +42,8 @@ returns c = λ p.
     let z : run .result - 0 ≡ run .result = omega arith in
     rw (
       drained-is (a .k) (g .result) (a .tables .now) (a .log .now) (g .ensures) (s .pre .0 .1) (s .pre .0 .0) (a .budget) _ (run .ensures .1),
-      c .before .before .before .let-go-all .ensures,
+      c .before .before .before .let-go-all .ensures .0,
+      c .before .before .before .let-go-all .ensures .1,
       c .done .ensures,
       c .before .last-value .ensures (a .k .places) (run .last .1 .0),
       z,

@@ -14,8 +14,9 @@ returns c = λ z.
     rw (
       c .done .ensures,
       c .before .one .ensures .0,
-      gone .row,
-      gone .answer,
+      gone .0 .row,
+      gone .1,
+      gone .0 .answer,
       c .before .before .before .before .wide .ensures .0,
       c .before .before .before .before .before .block-of .ensures,
       c .before .before .before .before .before .before .hand-of .ensures,

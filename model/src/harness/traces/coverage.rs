@@ -44,8 +44,8 @@ const fn refused_chart(name: &'static str, shows: fn(&[u8]) -> bool) -> Case {
     }
 }
 
-/// What good traces come to besides every answer; values are bytes 4 and 5.
-const CASES: [Case; 51] = [
+/// What good traces come to besides every answer; NEW's mark is byte 3, values are bytes 4 and 5.
+const CASES: [Case; 54] = [
     refused_chart("class 1", |reply| reply[4] == 1),
     refused_chart("class 2", |reply| reply[4] == 2),
     refused_chart("class 3", |reply| reply[4] == 3),
@@ -56,6 +56,15 @@ const CASES: [Case; 51] = [
     }),
     done("NEW", "block of 64 bytes", |reply| reply[4] >= 48),
     done("NEW", "block used before", |reply| reply[5] > 0),
+    done("NEW", "mark 0, block of 16 bytes", |reply| {
+        reply[3] == 0 && reply[4] < 32
+    }),
+    done("NEW", "mark 0, block of 32 bytes", |reply| {
+        reply[3] == 0 && (32..48).contains(&reply[4])
+    }),
+    done("NEW", "mark 0, block of 64 bytes", |reply| {
+        reply[3] == 0 && reply[4] >= 48
+    }),
     done("POST", "into an empty mailbox", |reply| reply[4] == 1),
     done("POST", "behind others", |reply| reply[4] > 1),
     done("POSTFRONT", "into an empty mailbox", |reply| reply[4] == 1),

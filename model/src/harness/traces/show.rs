@@ -22,7 +22,8 @@ pub fn line(reply: &[u8]) -> String {
     line
 }
 
-/// As many as the count says, and more if another byte is not 0.
+/// As many as the count says, and more if another byte is not 0. The mark in NEW's reply is taken
+/// for a count too: a reply does not say which command it answers.
 fn shown(actions: &[u8], count: u8) -> &[u8] {
     let used = actions.iter().rposition(|&action| action != 0);
     let most = used.map_or(0, |last| last + 1).max(usize::from(count));

@@ -38,12 +38,12 @@ fn an_event_set_aside_survives_its_end() {
     assert_eq!(bench.kernel.references(event.block), 2);
     bench.expect(End, &[0, 0, 0, 0, 0]);
     bench.expect(End, &[5]);
-    bench.expect(new(31, 16), &[0, 0, 0, 0, 1, 0]);
+    bench.expect(new(31, 16), &[0, 0, 0, 30, 1, 0]);
     bench.expect(Recall { q: 3, p: 5 }, &[0, 0, 0, 0, 1]);
     assert_eq!(bench.kernel.references(event.block), 1);
     bench.expect_step(event, true);
     bench.expect(Recall { q: 3, p: 5 }, &[0, 0, 0, 0, 0]);
-    bench.expect(new(31, 16), &[0, 0, 0, 0, 0, 1]);
+    bench.expect(new(31, 16), &[0, 0, 0, 30, 0, 1]);
 }
 
 #[test]
@@ -203,8 +203,8 @@ fn flush_frees_what_nothing_else_refers_to() {
         bench.expect(Hold { handle }, &[7]);
     }
     // Freed once each, although one of them had two entries.
-    bench.expect(new(4, 16), &[0, 0, 0, 0, 0, 1]);
-    bench.expect(new(4, 16), &[0, 0, 0, 0, 1, 1]);
+    bench.expect(new(4, 16), &[0, 0, 0, 26, 0, 1]);
+    bench.expect(new(4, 16), &[0, 0, 0, 26, 1, 1]);
     bench.expect(Release { handle: held }, &[0, 0, 0, 0, 0, 1]);
     bench.expect(End, &[0, 0, 0, 0, 1]);
     bench.expect(Next, &[0, 3, 31, 0, 3, 0]);

@@ -90,7 +90,7 @@ fn new_writes_the_whole_block_and_nothing_else() {
         size: 20,
         payload,
     };
-    bench.expect(new, &[0, 0, 0, 0, 32, 0]);
+    bench.expect(new, &[0, 0, 0, 15, 32, 0]);
     let (before, rest) = bench.payloads.split_at(512);
     let (block, after) = rest.split_at(32);
     assert_eq!(block[..20], [7; 20]);
@@ -102,7 +102,13 @@ fn new_writes_the_whole_block_and_nothing_else() {
 fn read_shows_the_payload() {
     let mut bench = Bench::fresh();
     let payload: [u8; 64] = std::array::from_fn(|place| 100 + place as u8);
-    for (size, block) in [(0, 0), (5, 1), (18, 32), (19, 33), (64, 48)] {
+    for (size, block, mark) in [
+        (0, 0, 31),
+        (5, 1, 30),
+        (18, 32, 15),
+        (19, 33, 14),
+        (64, 48, 7),
+    ] {
         let mut used = payload;
         used[usize::from(size)..].fill(0);
         let new = New {
@@ -110,7 +116,7 @@ fn read_shows_the_payload() {
             size,
             payload: used,
         };
-        bench.expect(new, &[0, 0, 0, 0, block, 0]);
+        bench.expect(new, &[0, 0, 0, mark, block, 0]);
         let shown = size.min(18);
         let head = [0, 0, 0, shown, size, 0];
         let expected = [&head, &payload[..usize::from(shown)]].concat();

@@ -70,8 +70,8 @@ fn the_log_has_one_next_answer_per_step() {
     assert_eq!(bench.log[..72], lines.concat());
     assert!(bench.log[72..].iter().all(|&byte| byte == UNTOUCHED));
     // Both events were freed.
-    bench.expect(new(4, 0), &[0, 0, 0, 0, 0, 1]);
-    bench.expect(new(4, 20), &[0, 0, 0, 0, 32, 1]);
+    bench.expect(new(4, 0), &[0, 0, 0, 31, 0, 1]);
+    bench.expect(new(4, 20), &[0, 0, 0, 15, 32, 1]);
 }
 
 #[test]

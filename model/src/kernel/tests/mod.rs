@@ -4,6 +4,7 @@ mod aside;
 mod commands;
 mod drain;
 mod mail;
+mod marks;
 mod pools;
 mod refusals;
 mod timers;

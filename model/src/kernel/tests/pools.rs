@@ -4,8 +4,15 @@ use super::*;
 
 #[test]
 fn sizes_choose_pools() {
-    for (size, block) in [(0, 0), (16, 0), (17, 32), (20, 32), (33, 48), (64, 48)] {
-        Bench::fresh().expect(new(4, size), &[0, 0, 0, 0, block, 0]);
+    for (size, block, mark) in [
+        (0, 0, 31),
+        (16, 0, 31),
+        (17, 32, 15),
+        (20, 32, 15),
+        (33, 48, 7),
+        (64, 48, 7),
+    ] {
+        Bench::fresh().expect(new(4, size), &[0, 0, 0, mark, block, 0]);
     }
     Bench::fresh().expect(new(4, 65), &[3]);
 }
@@ -14,11 +21,11 @@ fn sizes_choose_pools() {
 fn a_dry_pool_does_not_borrow() {
     let mut bench = Bench::fresh();
     for block in 0..=31 {
-        bench.expect(new(4, 16), &[0, 0, 0, 0, block, 0]);
+        bench.expect(new(4, 16), &[0, 0, 0, 31 - block, block, 0]);
     }
     bench.expect(new(4, 16), &[11]);
     bench.expect(new(4, 0), &[11]);
-    bench.expect(new(4, 17), &[0, 0, 0, 0, 32, 0]);
+    bench.expect(new(4, 17), &[0, 0, 0, 15, 32, 0]);
     // The lowest block that was freed comes back first.
     for block in [20, 3] {
         let handle = handle(block, 0);
@@ -33,20 +40,20 @@ fn a_dry_pool_does_not_borrow() {
 fn the_larger_pools_run_dry_too() {
     let mut bench = Bench::fresh();
     for block in 32..=47 {
-        bench.expect(new(4, 32), &[0, 0, 0, 0, block, 0]);
+        bench.expect(new(4, 32), &[0, 0, 0, 47 - block, block, 0]);
     }
     bench.expect(new(4, 17), &[11]);
     for block in 48..=55 {
-        bench.expect(new(4, 64), &[0, 0, 0, 0, block, 0]);
+        bench.expect(new(4, 64), &[0, 0, 0, 55 - block, block, 0]);
     }
     bench.expect(new(4, 64), &[11]);
-    bench.expect(new(4, 16), &[0, 0, 0, 0, 0, 0]);
+    bench.expect(new(4, 16), &[0, 0, 0, 31, 0, 0]);
 }
 
 #[test]
 fn an_event_in_two_mailboxes_is_freed_after_both_steps() {
     let mut bench = Bench::with_objects(&[(5, 1), (9, 1)]);
-    bench.expect(new(31, 20), &[0, 0, 0, 0, 32, 0]);
+    bench.expect(new(31, 20), &[0, 0, 0, 15, 32, 0]);
     let event = handle(32, 0);
     bench.post(event, 5);
     bench.post(event, 9);
@@ -54,7 +61,7 @@ fn an_event_in_two_mailboxes_is_freed_after_both_steps() {
     bench.expect(End, &[0, 0, 0, 0, 0]);
     bench.expect(Next, &[0, 5, 31, 0, 32, 0]);
     bench.expect(End, &[0, 0, 0, 0, 1]);
-    bench.expect(new(4, 20), &[0, 0, 0, 0, 32, 1]);
+    bench.expect(new(4, 20), &[0, 0, 0, 15, 32, 1]);
     bench.expect(Read { handle: event }, &[7]);
     bench.expect(
         Drop {
@@ -71,10 +78,10 @@ fn an_event_is_not_free_while_it_is_in_hand() {
     bench.post(event, 5);
     bench.expect(Next, &[0, 5, 31, 0, 0, 0]);
     bench.expect(Drop { handle: event }, &[13]);
-    bench.expect(new(31, 16), &[0, 0, 0, 0, 1, 0]);
+    bench.expect(new(31, 16), &[0, 0, 0, 30, 1, 0]);
     bench.expect(End, &[0, 0, 0, 0, 1]);
     bench.expect(Drop { handle: event }, &[7]);
-    bench.expect(new(31, 16), &[0, 0, 0, 0, 0, 1]);
+    bench.expect(new(31, 16), &[0, 0, 0, 30, 0, 1]);
 }
 
 #[test]
@@ -117,7 +124,7 @@ fn a_release_in_the_step_leaves_the_free_to_end() {
 fn generations_wrap_from_255_to_0() {
     let mut bench = Bench::fresh();
     for generation in (0..=255).chain([0]) {
-        bench.expect(new(4, 40), &[0, 0, 0, 0, 48, generation]);
+        bench.expect(new(4, 40), &[0, 0, 0, 7, 48, generation]);
         let event = handle(48, generation);
         let before = handle(48, generation.wrapping_sub(1));
         bench.expect(Drop { handle: before }, &[7]);

@@ -99,7 +99,7 @@ fn timer_entries_go_to_the_back_and_are_no_blocks() {
     bench.expect(End, &[0, 0, 0, 0, 1]);
     bench.expect(Next, &[0, 5, 31, 0, 128, 0]);
     // Block 0 is free although timer 0 is in hand.
-    bench.expect(new(31, 0), &[0, 0, 0, 0, 0, 1]);
+    bench.expect(new(31, 0), &[0, 0, 0, 31, 0, 1]);
     bench.expect(
         Drop {
             handle: handle(0, 1),

@@ -1,7 +1,7 @@
 use borrow.Author.Needs.{needs}
 use borrow.Author.Tests.{le-ltb, lt-ltb}
-use Rattle.reply.proofs.least.Statement.{statement}
-use Rattle.reply.proofs.least.Tie as tie
+use Rattle.ground.proofs.least.Statement.{statement}
+use Rattle.ground.proofs.least.Tie as tie
 
 returns : tie.Need-returns
 returns c = (simp (lt-ltb _ _ (c .if1 .taken)), search needs)
