@@ -23,7 +23,7 @@ use Rattle.pool.specs.Cell
 use Rattle.pool.specs.Cell.{Cell, free, live, isFree}
 use Rattle.pool.specs.Mark
 use Rattle.pool.specs.Row
-use Rattle.pool.specs.Row.{at}
+use Rattle.pool.specs.Row.{at, poolFor}
 use Rattle.machine.specs.Aside
 use Rattle.machine.specs.Charts
 use Rattle.machine.specs.Charts.{slotUsed}
@@ -41,8 +41,9 @@ use Rattle.machine.specs.State.{State, freshState, restOf, started, isOpen}
 use Rattle.machine.specs.Steps
 use Rattle.story.specs.Calls.{areBytes, Call, Story, fresh, then, kernel, answerIn, Area, payloadArea, tableArea, left, OnlyKernel}
 use Rattle.story.specs.Table.{LOAD, START, NEW, NEXT, READ, DRAIN, DEFER, RECALL, FLUSH}
-use Rattle.story.specs.Terms.{reply, number, value₁, value₂, Did, cell, refer, LastGoes, NewGoes, side}
+use Rattle.story.specs.Terms.{reply, number, value₁, value₂, Did, cell, refer, LastGoes, NewGoes, mark, side}
 use Rattle.story.proofs.Aside.{deferred}
+use Rattle.story.proofs.Marks.{marks-stay, markShown}
 
 -- ## Asking: each call is lent what the calls before left in the areas, zeros at first; or, of the tables, what somebody wrote: zeros
 record Ask : Type 0 where
@@ -290,6 +291,22 @@ set-aside =
     ∙ sym (deferred (storyOf 18) (callOf 18) (refl, byte-at 18 (omega arith) 0) .entries)
     ∙ byte-at 18 (omega arith) 4
 
+-- the mark of the pool of the smallest blocks: its size as long as there was no NEW, and what the first NEW answers
+mark-before : mark (storyOf 2) (poolFor 1) ≡ 32
+unfolding asks padded told kernel poolFor
+mark-before = ap (λ (m : List ℕ). getD m 0 0) (
+    ap (λ h. kernel h .marks) (after 1 (omega arith))
+    ∙ marks-stay (storyOf 1) (callOf 1) (λ did. absurd (omega (arith, did .0)))
+    ∙ ap (λ h. kernel h .marks) (after 0 (omega arith))
+    ∙ marks-stay (storyOf 0) (callOf 0) (λ did. absurd (omega (arith, did .0))))
+
+mark-after : mark (storyOf 3) (poolFor 1) ≡ 31
+unfolding asks expected padded
+mark-after =
+    ap (λ h. mark h (poolFor 1)) (after 2 (omega arith))
+    ∙ sym (markShown (storyOf 2) (callOf 2) (refl, byte-at 2 (omega arith) 0))
+    ∙ byte-at 2 (omega arith) 3
+
 record Meets : Type 0 where
   -- of the commands that the theorems speak of, each done
   loads : Did LOAD (storyOf 0) (callOf 0)
@@ -301,6 +318,8 @@ record Meets : Type 0 where
   loadable : Loadable (storyOf 0) (callOf 0)
   -- NEW hands out a free block
   handed : (isFree (cell (storyOf 2) 0) ≡ true) × (isLive (cell (storyOf 3) 0) ≡ true)
+  -- and moves the mark of its pool
+  nears : (mark (storyOf 2) (poolFor 1) ≡ 32) × (mark (storyOf 3) (poolFor 1) ≡ 31)
   -- NEXT moves object 9, which is started, from state 2 to state 4
   runs : started (kernel (storyOf 2)) 9 ≡ true
   moves : (restOf (kernel (storyOf 5)) 9 ≡ 2) × (restOf (kernel (storyOf 6)) 9 ≡ 4)
@@ -340,6 +359,7 @@ meets = record {
   drains = (refl, byte-at 12 (omega arith) 0);
   loadable = loadable;
   handed = (ap isFree (cell-after 1 (omega arith)), ap isLive (cell-after 2 (omega arith)));
+  nears = (mark-before, mark-after);
   runs = on-after 1 (omega arith);
   moves = (rest-after 4 (omega arith), rest-after 5 (omega arith));
   step = byte-at 12 (omega arith) 4;

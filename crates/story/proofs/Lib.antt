@@ -1,7 +1,8 @@
 -- Theorems says what is proved; Examples shows that none of it is empty. The others, by subject: Dispatch, Made and Frames: from the commands
 -- to any record, what a call did that was done, what only some commands change. Numbers, Lines, Refusals: the table. Cells, Blocks, Counting:
 -- blocks. Taking and Starting: NEXT and START. Draining and Pairs: DRAIN. Charted, Tables, Nested, Resting: charts and tables. Over: bytes
--- written over others. Payloads: payloads, and the lengths of the areas. Aside: side queues.
+-- written over others. Payloads: payloads, and the lengths of the areas. Aside: side queues. Marks: the
+-- least number of free blocks.
 pub mod Aside
 pub mod Blocks
 pub mod Cells
@@ -13,6 +14,7 @@ pub mod Examples
 pub mod Frames
 pub mod Lines
 pub mod Made
+pub mod Marks
 pub mod Nested
 pub mod Numbers
 pub mod Over

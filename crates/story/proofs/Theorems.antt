@@ -3,6 +3,7 @@
 use Rattle.story.specs.Demands
 use Rattle.story.proofs.Aside
 use Rattle.story.proofs.Counting
+use Rattle.story.proofs.Marks
 use Rattle.story.proofs.Nested
 use Rattle.story.proofs.Pairs
 use Rattle.story.proofs.Payloads
@@ -84,6 +85,19 @@ onlyAside = Aside.onlyAside
 -- Nothing that is set aside: `Meets`, aside.
 pub keptAside : Demands.KeptAside
 keptAside = Aside.keptAside
+
+-- ## Document 02, request 5
+-- No hypothesis: of every story, and of the pool for every size.
+pub marked : Demands.Marked
+marked = Marks.marked
+
+-- No NEW that is done: `Meets`, news.
+pub markShown : Demands.MarkShown
+markShown = Marks.markShown
+
+-- No mark that moves: `Meets`, nears.
+pub onlyTaking : Demands.OnlyTaking
+onlyTaking = Marks.onlyTaking
 
 -- ## Demand 3
 -- Stories in which only the kernel writes to the tables, with no slot that is loaded: `Meets`, tables, honest and loads.

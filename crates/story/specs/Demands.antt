@@ -4,7 +4,7 @@ use mathlib.Core.Bool.{true, false, cond, _&&_}
 use mathlib.Core.List.{List, _∷_}
 use mathlib.Core.Logic.{_↔_, _⊎_}
 use mathlib.Core.Path.{_≡_}
-use Prim.Native.Nat.{ℕ, _*_, _≤_, _<_}
+use Prim.Native.Nat.{ℕ, _*_, _-_, _≤_, _<_}
 use lib.ListN.{length, getD, take, drop, replicate}
 use Rattle.ground.specs.Bytes.{padded}
 use Rattle.chart.specs.Chart.{classOf, leaf, states}
@@ -19,11 +19,12 @@ use Rattle.machine.specs.Machine.{partOf}
 use Rattle.machine.specs.Numbers.{objects, blocks, slots, replyBytes, tableBytes, capacity, placeOf}
 use Rattle.machine.specs.Reply.{DONE, TABLE}
 use Rattle.machine.specs.State.{sizeIn, restOf, slotOf, started, isLoaded, isOpen}
-use Rattle.story.specs.Calls.{Call, Story, then, kernel, answerIn, payloadArea, tableArea, left, OnlyKernel}
+use Rattle.story.specs.Calls.{Call, Story, fresh, then, kernel, answerIn, payloadArea, tableArea, left, OnlyKernel}
 use Rattle.story.specs.Table.{LOAD, START, NEW, NEXT, READ, DRAIN, DEFER, RECALL, FLUSH}
 use Rattle.story.specs.Terms.{argument, reply, number, object, value₁, value₂, Did, appliesTo, chartIn, givenTo, cell, refer, Counts, LastGoes, NewGoes}
 use Rattle.story.specs.Terms.{nextCall, steps, logLine, says, signalTaken, nested, Unchanged, Takes, Drains, Holds}
 use Rattle.story.specs.Terms.{side, Defers, Recalls, FindsNone, Flushes, Lives}
+use Rattle.story.specs.Terms.{count, mark, Smallest}
 
 -- ## Demand 1
 -- "Any command record, chart and lent area, in any order of calls from a fresh start, gets an answer and never a trap."
@@ -107,6 +108,22 @@ OnlyAside =
 -- Nothing that is set aside is freed: each entry of a side queue is a live block, and so has the bytes that its NEW gave (Payloads).
 abbrev pub KeptAside : Type 0
 KeptAside = (h : Story) (q i : ℕ) → i < length (side h q) → Lives h (getD (side h q) i 0)
+
+-- ## Document 02, request 5, "how near did we come?"
+-- The mark is "that pool's least number of free blocks since the fresh start": the smallest that it had at any point of the story, of the
+-- pool for any size; at the fresh start the pool's size.
+abbrev pub Marked : Type 0
+Marked = (h : Story) (size : ℕ) → let pool = poolFor size in Smallest h pool (mark h pool) × (mark fresh pool ≡ pool .to - pool .from)
+
+-- "NEW shows it in the reply's count byte", of the pool that it took from, "this one included".
+abbrev pub MarkShown : Type 0
+MarkShown = (h : Story) (c : Call) → Did NEW h c → count h c ≡ mark (then h c) (poolFor (argument c 2))
+
+-- "A refused NEW doesn't move the mark, and neither does freeing": only a NEW that is done does, and the mark of its own pool alone.
+abbrev pub OnlyTaking : Type 0
+OnlyTaking =
+    (h : Story) (c : Call) (size : ℕ) → let pool = poolFor size in
+    (mark (then h c) pool ≡ mark h pool → ⊥) → Did NEW h c × (poolFor (argument c 2) ≡ pool)
 
 -- ## Demand 3, "as long as nobody but the kernel writes to the tables"
 -- Each loaded slot has the chart of its last LOAD; its table agrees with it, flat and nested, "over any sequence of signals".

@@ -1,5 +1,5 @@
--- The words of the statements: what a call is and is answered, charts and payloads as they were given, what a block counts, DRAIN's steps,
--- side queues.
+-- The words of the statements: what a call is and is answered, charts and payloads as they were given, what a block counts, how many a
+-- pool has free, DRAIN's steps, side queues.
 use mathlib.Core.Bool.{Bool, true, cond, _&&_}
 use mathlib.Core.List.{List, [], _∷_, _++_}
 use mathlib.Core.Logic.{_⊎_}
@@ -15,7 +15,9 @@ use Rattle.mail.specs.Box.{front, one, queued, rest, timesIn}
 use Rattle.mail.specs.Entry.{entryOf, handOf}
 use Rattle.mail.specs.declared.Hand.the-variants.{Block}
 use Rattle.pool.specs.Cell.{Cell, free, live, absent}
+use Rattle.pool.specs.Mark.{freeIn, markOf}
 use Rattle.pool.specs.Row.{at}
+use Rattle.pool.specs.declared.Span.{Span}
 use Rattle.machine.specs.Events.{receivers}
 use Rattle.machine.specs.Inv.{isLive, references}
 use Rattle.machine.specs.Machine.{payload, partOf}
@@ -41,6 +43,9 @@ number h c = getD (reply h c) 0 0
 
 abbrev pub object : Story → Call → ℕ
 object h c = getD (reply h c) 1 0
+
+abbrev pub count : Story → Call → ℕ
+count h c = getD (reply h c) 3 0
 
 abbrev pub value₁ : Story → Call → ℕ
 value₁ h c = getD (reply h c) 4 0
@@ -89,6 +94,25 @@ pub record NewGoes (h : Story) (c : Call) (b : ℕ) : Type 0 where
   pub new : refer h b ≡ 0
   pub this : argument c 1 ≡ b
   pub how : Did DROP h c ⊎ (Did PUBLISH h c × (receivers (kernel h) (signalIn (kernel h) b) objects ≡ 0))
+
+-- After a story, of a pool: how many blocks are free, and its mark.
+abbrev pub freeBlocks : Story → Span → ℕ
+freeBlocks h pool = freeIn (kernel h .cells) pool
+
+abbrev pub mark : Story → Span → ℕ
+mark h pool = markOf (kernel h .marks) pool
+
+-- A story before its last k calls; a fresh start where it has no more than these.
+unfoldable pub earlier : ℕ → Story → Story
+earlier zero h = h
+earlier (suc k) fresh = fresh
+earlier (suc k) (then h c) = earlier k h
+
+-- n is the smallest number of free blocks that a pool had at any point of a story: at one point it had n, and at none fewer.
+pub record Smallest (h : Story) (pool : Span) (n : ℕ) : Type 0 where
+  pub point : ℕ
+  pub had : freeBlocks (earlier point h) pool ≡ n
+  pub least : (k : ℕ) → n ≤ freeBlocks (earlier k h) pool
 
 -- With the areas of c: a NEXT, an END, and k times NEXT and END after h.
 unfoldable pub nextCall : Call → Call
