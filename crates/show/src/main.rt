@@ -4,15 +4,25 @@
 //     object 9  transition  signal 6    the object, the outcome, and the signal (START has none)
 //     event 32 1                        NEXT: the event's block and generation; or the number of the timer
 //     values 5 0                        any other command that was done: its two values
+//     least free 3                      NEW: the least number of free blocks that its pool has had
 //     class 2                           CHART: the class of the fault
 //     count 4  actions 26 22 31 41      the count and the actions; for READ bytes of the payload
 // What is no reply of the kernel is told as such: a number above 15, and a last piece that is shorter than a record.
+//
+// A reply does not say which command it answers. The records that they answer are read from the file `trace` of the
+// folder that it is called in. Where there is none, or no more, a count that is none of READ's is taken for NEW's.
+use numbers::MOST_ACTIONS;
+use numbers::RECORD_BYTES;
 use numbers::REPLY_BYTES;
 use numbers::answer;
+use numbers::command::NEW;
 use text::Line;
 use text::wide;
 use text::with_bytes;
 use text::with_number;
+
+// The number of no command: of a reply whose record is not there.
+const UNKNOWN: u8 = 0;
 
 // An event that came from timer t has the block number 128 + t.
 const FIRST_TIMER: u8 = 128;
@@ -99,12 +109,31 @@ fn with_counted(line: Line, count: u8, name: &[u8], counted: &[u8]) -> Line {
     )
 }
 
-fn reply_line(reply: [u8; REPLY_BYTES]) -> Line {
+// READ's count is the payload's size, its first value, as far as there is room; its second value is 0.
+fn may_be_read(count: u8, first: u8, second: u8) -> bool {
+    second == 0 && ground::wide(count) == ground::least(ground::wide(first), MOST_ACTIONS)
+}
+
+// Whether a reply with these bytes, of a command that names no object, is that of a NEW which was done.
+fn is_new(command: u8, number: u8, count: u8, first: u8, second: u8) -> bool {
+    if number != answer::DONE {
+        return false;
+    }
+    if command == UNKNOWN {
+        return !may_be_read(count, first, second) && count != 0;
+    }
+    command == NEW
+}
+
+fn reply_line(command: u8, reply: [u8; REPLY_BYTES]) -> Line {
     let line = answer_line(reply[0]);
     let object = reply[1];
     let step = reply[2];
     if object == 0 && step == 0 {
         let told = with_values(line, reply[0], reply[4], reply[5]);
+        if is_new(command, reply[0], reply[3], reply[4], reply[5]) {
+            return with_item(told, b"  least free ", reply[3]);
+        }
         return with_counted(told, reply[3], b"  bytes", &reply[6..]);
     }
     let signal = step % 32;
@@ -127,12 +156,22 @@ fn short_line(n: usize) -> Line {
     )
 }
 
+// The number of the next command of the trace.
+fn next_command(trace: i32) -> u8 {
+    if trace < 0 {
+        return UNKNOWN;
+    }
+    let mut record = [UNKNOWN; RECORD_BYTES];
+    io::read_full(trace, &mut record);
+    record[0]
+}
+
 // Writes the line of the next reply, and answers whether there may be another.
-fn show_next() -> bool {
+fn show_next(trace: i32) -> bool {
     let mut reply = [0u8; REPLY_BYTES];
     let n = io::read_full(libc::STDIN_FILENO, &mut reply);
     if n == REPLY_BYTES {
-        text::write(reply_line(reply));
+        text::write(reply_line(next_command(trace), reply));
         return true;
     }
     if 0 < n {
@@ -143,8 +182,9 @@ fn show_next() -> bool {
 
 // A proved loop has to end, and nothing says that the input does: so the turns are counted down.
 fn main() {
+    let trace = os::open_read(b"trace");
     let mut turns = u64::MAX;
-    while turns > 0 && show_next() {
+    while turns > 0 && show_next(trace) {
         turns -= 1;
     }
 }
