@@ -15,8 +15,9 @@ use Rattle.machine.specs.Inv.{isLive}
 use Rattle.machine.specs.Machine.{payload}
 use Rattle.machine.specs.Reply.{replyOf, bytes}
 use Rattle.pool.specs.Cell.{Cell, free, live, absent, isFree, handedOut}
-use Rattle.pool.specs.Laws.{Lowest, changed-other, found-again, free-more, free-same, fresh-free, fresh-mark, pool-end, pool-marked, same-number, same-pool}
+use Rattle.pool.specs.Laws.{Lowest, changed-other, found-again, pool-end}
 use Rattle.pool.specs.Mark.{markOf, markWith, marksAfter, pools}
+use Rattle.pool.specs.Pools.{free-more, free-same, fresh-free, fresh-mark, pool-marked, same-number, same-pool}
 use Rattle.pool.specs.Row.{blocks, changed, poolFor}
 use Rattle.pool.specs.declared.Found.the-variants.{At}
 use Rattle.pool.specs.declared.Span.{Span}

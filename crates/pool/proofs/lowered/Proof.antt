@@ -1,5 +1,4 @@
 use borrow.Author.Needs.{needs}
-use mathlib.Core.Path.{_≡_, refl, _∙_}
 use native.Mathlib.Omega.{arith}
 use Rattle.pool.proofs.lowered.Statement.{statement}
 use Rattle.pool.proofs.lowered.Tie as tie
