@@ -222,18 +222,16 @@ pub fn let_go(p: Pool, b: usize) -> Gone
     ensures { λ r. ⌜ Frees fewer atLast (cells p) b (cells (r .pool)) (r .freed) ⌝ }
     ensures { λ r. ⌜ marks (r .pool) ≡ marks p ⌝ }
 {
-    let mut gens = p.gens;
-    let mut counts = p.counts;
-    let mut free = p.free;
-    let marks = p.marks;
+    let mut q = p;
+    let mut gens = q.gens;
+    let mut counts = q.counts;
+    let mut free = q.free;
     let freed = let_go_in(&mut gens, &mut counts, &mut free, b);
+    q.gens = gens;
+    q.counts = counts;
+    q.free = free;
     Gone {
-        pool: Pool {
-            free,
-            gens,
-            counts,
-            marks,
-        },
+        pool: q,
         freed: freed,
     }
 }
@@ -243,21 +241,19 @@ pub fn let_go_all(p: Pool, list: &[u8]) -> Pool
     ensures { λ r. ⌜ cells r ≡ goneAll (cells p) (now (list .entry)) ⌝ }
     ensures { λ r. ⌜ marks r ≡ marks p ⌝ }
 {
-    let mut gens = p.gens;
-    let mut counts = p.counts;
-    let mut free = p.free;
-    let marks = p.marks;
+    let mut q = p;
+    let mut gens = q.gens;
+    let mut counts = q.counts;
+    let mut free = q.free;
     let mut i = 0;
     while i < list.len() {
         let_go_in(&mut gens, &mut counts, &mut free, wide(list[i]));
         i += 1;
     }
-    Pool {
-        free,
-        gens,
-        counts,
-        marks,
-    }
+    q.gens = gens;
+    q.counts = counts;
+    q.free = free;
+    q
 }
 
 // A block that has no reference yet is freed.
@@ -278,18 +274,14 @@ pub fn drop_new(p: Pool, b: usize) -> Gone
         };
     }
     if p.counts[b] == NEW {
-        let mut gens = p.gens;
-        let counts = p.counts;
-        let mut free = p.free;
-        let marks = p.marks;
+        let mut q = p;
+        let mut gens = q.gens;
+        let mut free = q.free;
         set_free(&mut gens, &mut free, b);
+        q.gens = gens;
+        q.free = free;
         return Gone {
-            pool: Pool {
-                free,
-                gens,
-                counts,
-                marks,
-            },
+            pool: q,
             freed: true,
         };
     }

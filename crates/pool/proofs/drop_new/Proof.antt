@@ -18,7 +18,7 @@ returns-2 c = (frees-not _ _ _ _ dropped isNew (c .before .before .if1 .left) (i
 returns-3 : tie.Need-returns-3
 unfolding cells marks
 returns-3 c =
-    let new = c .before .before .before .before .before .before in
+    let new = c .before .before .before .before in
     let live = new .before .before in (
       frees-it _ _ _ _ dropped isNew (live .before .before .if1 .left) (is-live _ _ _ (live .before .has .ensures) (live .if2 .left)) _
           (c .set-free .ensures .0 _) (dropped-new _ _ (new .if3 .taken)),

@@ -11,11 +11,11 @@ use Rattle.pool.proofs.let_go_all.Tie as tie
 
 -- The rest of the list, from the row as it is, makes what the whole list makes of the row at the start.
 abbrev Inv-loop : tie.InvT-loop
-Inv-loop list gens₀ counts₀ free₀ marks i₀ gens counts free i =
+Inv-loop list q gens₀ counts₀ free₀ i₀ gens counts free i =
     Sized gens counts × (goneAll (rowOf gens counts (members free)) (drop i list) ≡ goneAll (rowOf gens₀ counts₀ (members free₀)) list)
 
 abbrev μ-loop : tie.MeasureT-loop
-μ-loop list gens₀ counts₀ free₀ marks i₀ gens counts free i = length list - i
+μ-loop list q gens₀ counts₀ free₀ i₀ gens counts free i = length list - i
 
 loop-again : tie.Need-loop-again Inv-loop μ-loop
 loop-again c =
