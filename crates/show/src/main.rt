@@ -9,8 +9,8 @@
 //     count 4  actions 26 22 31 41      the count and the actions; for READ bytes of the payload
 // What is no reply of the kernel is told as such: a number above 15, and a last piece that is shorter than a record.
 //
-// A reply does not say which command it answers. The records that they answer are read from the file `trace` of the
-// folder that it is called in. Where there is none, or no more, a count that is none of READ's is taken for NEW's.
+// A reply does not say which command it answers: the records that the replies answer are read from the file `trace` of
+// the folder that this is called in. Where there is none, or no more, a count that is none of READ's is taken for NEW's.
 use numbers::MOST_ACTIONS;
 use numbers::RECORD_BYTES;
 use numbers::REPLY_BYTES;
