@@ -1,8 +1,7 @@
 // What several layers need of bytes, once.
 ghost use mathlib.Core.Bool.{cond};
 ghost use mathlib.Core.Path.{_≡_};
-ghost use Prim.Native.Nat.{_<_, _≤_};
-ghost use lib.Dec.{ltb};
+ghost use Prim.Native.Nat.{_<_, _≤_, min};
 ghost use lib.ListN.{getD, length};
 ghost use Rattle.ground.specs.Bytes.{padded};
 ghost use Rattle.ground.specs.Bytes as bytes;
@@ -23,7 +22,7 @@ pub fn one(t: bool) -> u8
 
 // The smaller of two numbers.
 pub fn least(a: usize, b: usize) -> usize
-    ensures { λ r. ⌜ (r ≡ cond (ltb a b) a b) × (r ≤ b) ⌝ }
+    ensures { λ r. ⌜ r ≡ min a b ⌝ }
 {
     if a < b { a } else { b }
 }

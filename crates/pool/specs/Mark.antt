@@ -1,8 +1,6 @@
 -- Document 02, request 5: how near each pool came to having no block left.
-use mathlib.Core.Bool.{cond}
 use mathlib.Core.List.{List, [], _∷_}
-use Prim.Native.Nat.{ℕ, _-_}
-use lib.Dec.{ltb}
+use Prim.Native.Nat.{ℕ, _-_, min}
 use lib.ListN.{getD, set}
 use Rattle.ground.specs.Range.{countFrom}
 use Rattle.pool.specs.Cell.{Cell, isFree, handedOut}
@@ -28,7 +26,7 @@ markOf marks pool = getD marks (pool .number) 0
 
 -- The mark of a pool once its block b is handed out, this one counted as taken: the smaller of what is free now and what it was.
 unfoldable pub markWith : List Cell → List ℕ → Span → ℕ → ℕ
-markWith s marks pool b = let left = freeIn (changed handedOut s b) pool in cond (ltb left (markOf marks pool)) left (markOf marks pool)
+markWith s marks pool b = min (freeIn (changed handedOut s b) pool) (markOf marks pool)
 
 -- Handing out moves the mark of its own pool alone; where nothing is found, no mark moves.
 unfoldable pub marksAfter : List Cell → List ℕ → Span → Found → List ℕ

@@ -5,20 +5,14 @@ use mathlib.Core.Path.{_≡_, refl, sym, ap, _∙_}
 use Prim.Native.Nat.{ℕ, zero, suc, _-_, _<_, _≤_}
 use native.Mathlib.Omega.{arith}
 use borrow.Author.Tests.{lt-ltb, le-ltb}
-use lib.Dec.{leb, ltb}
+use lib.Dec.{ltb}
 use lib.ListN.{getD-replicate}
-use Rattle.ground.specs.Bools.{cond-all}
 use Rattle.ground.specs.Counting.{count-all, count-more, count-same}
 use Rattle.pool.specs.Cell.{Cell, free, absent, isFree}
-use Rattle.pool.specs.Laws.{pool-end}
+use Rattle.pool.specs.Laws.{each-pool, pool-end}
 use Rattle.pool.specs.Mark.{freeIn, markOf, freshMarks, pools}
 use Rattle.pool.specs.Row.{at, blocks, freshRow, span, poolFor}
 use Rattle.pool.specs.declared.Span.{Span}
-
--- what holds of each pool holds of the pool for any size
-each-pool : (P : Span → Type 0) → P (span 0 0 32) → P (span 1 32 48) → P (span 2 48 56) → P (span 3 56 56) → (size : ℕ) → P (poolFor size)
-unfolding poolFor
-each-pool P small middle large none size = cond-all P (leb size 16) small (cond-all P (leb size 32) middle (cond-all P (leb size 64) large none))
 
 -- a pool that has blocks has a mark
 pub pool-marked : (size : ℕ) → poolFor size .from < poolFor size .to → poolFor size .number < pools

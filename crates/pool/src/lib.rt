@@ -1,11 +1,9 @@
 // The block pool: 56 blocks in three pools, each with a generation and a count of references, the set of those that are free, and the
 // mark of each pool, its least number of free blocks so far. What stands above relies on the promises alone, which speak of `cells p`,
 // the row of blocks that a pool stands for, and of `marks p`.
-ghost use mathlib.Core.Bool.{cond};
 ghost use mathlib.Core.Path.{_≡_};
 ghost use mathlib.Core.List.{List};
-ghost use Prim.Native.Nat.{ℕ, _-_, _<_, _≤_};
-ghost use lib.Dec.{ltb};
+ghost use Prim.Native.Nat.{ℕ, _-_, _<_, _≤_, min};
 ghost use lib.ListN.{length};
 ghost use Rattle.bits.specs.Members.{members, width};
 ghost use Rattle.ground.specs.Range.{countFrom, tab};
@@ -121,7 +119,7 @@ fn pool_for(size: usize) -> Span
 // The mark of a pool once these blocks are free, where it was `mark`.
 fn lowered(mark: u8, free: u64, from: usize, to: usize) -> u8
     requires { ⌜ to ≤ width ⌝ }
-    ensures { λ r. ⌜ (let left = countFrom (members free) from (to - from) in r ≡ cond (ltb left mark) left mark) ⌝ }
+    ensures { λ r. ⌜ r ≡ min (countFrom (members free) from (to - from)) mark ⌝ }
 {
     least(bits::count(free, from, to), wide(mark)) as u8
 }

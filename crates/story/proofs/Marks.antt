@@ -1,15 +1,13 @@
 -- How near each pool came to having no block left: what a call makes of a mark and of the free blocks, and the smallest number of these.
-use mathlib.Core.Bool.{true, cond}
+use mathlib.Core.Bool.{true}
 use mathlib.Core.List.{List}
 use mathlib.Core.Logic.{_⊎_, inl, inr, ⊎-elim}
 use mathlib.Core.Path.{_≡_, refl, sym, ap, subst, _∙_}
-use Prim.Native.Nat.{ℕ, zero, suc, _<_, _≤_}
-use native.Mathlib.Omega.{arith}
-use borrow.Author.Tests.{ltb-true, ltb-false}
-use lib.Dec.{ltb}
+use Prim.Native.Nat.{ℕ, zero, suc, _<_, _≤_, min}
+use native.Mathlib.Omega.{arith, min-cases}
 use lib.ListN.{length, getD, length-set}
 use lib.Seq.{getD-set-same, getD-set-other}
-use Rattle.ground.specs.Bools.{cond-pick, eq-or, no-yes}
+use Rattle.ground.specs.Bools.{eq-or, no-yes}
 use Rattle.machine.specs.Events.{newEvent, newIn}
 use Rattle.machine.specs.Inv.{isLive}
 use Rattle.machine.specs.Machine.{payload}
@@ -29,9 +27,6 @@ use Rattle.story.proofs.Cells.{isThere}
 use Rattle.story.proofs.Counting.{handed, onlyNew, there}
 use Rattle.story.proofs.Made.{new-made}
 use Rattle.story.proofs.Tables.{frame, unchanged-state}
-
-abbrev lesser : ℕ → ℕ → ℕ
-lesser a b = cond (ltb a b) a b
 
 -- ## A call that is no NEW, or is refused: no mark moves, and every free block stays free
 module _ (h : Story) (c : Call) (other : Did NEW h c → ⊥) where
@@ -92,7 +87,7 @@ marks-length (then h c) =
 
 -- what it makes of the mark of its own pool, and of another
 module _ (h : Story) (c : Call) (did : Did NEW h c) where
-  marked-own : mark (then h c) (its h c did) ≡ lesser (freeBlocks (then h c) (its h c did)) (mark h (its h c did))
+  marked-own : mark (then h c) (its h c did) ≡ min (freeBlocks (then h c) (its h c did)) (mark h (its h c did))
   unfolding marksAfter markWith
   marked-own =
       let w = lowest h c did in
@@ -123,16 +118,14 @@ abbrev Follows : Story → Call → Span → Type 0
 Follows h c pool = let m = mark (then h c) pool in
     ((m ≡ freeBlocks (then h c) pool) × (m ≤ mark h pool)) ⊎ ((m ≡ mark h pool) × (m ≤ freeBlocks (then h c) pool))
 
-lesser-is : (a b m : ℕ) → m ≡ lesser a b → ((m ≡ a) × (m ≤ b)) ⊎ ((m ≡ b) × (m ≤ a))
-lesser-is a b m = cond-pick (λ x. m ≡ x → ((m ≡ a) × (m ≤ b)) ⊎ ((m ≡ b) × (m ≤ a))) (ltb a b) a b
-    (λ t e. inl (e, omega (arith, ltb-true a b t)))
-    (λ t e. inr (e, omega (arith, ltb-false a b t)))
+smaller-of : (a b m : ℕ) → m ≡ min a b → ((m ≡ a) × (m ≤ b)) ⊎ ((m ≡ b) × (m ≤ a))
+smaller-of a b m e = min-cases a b _ (λ l f. inl (e ∙ f, omega arith)) (λ l f. inr (e ∙ f, omega arith))
 
 follows : (h : Story) (c : Call) (size : ℕ) → mark h (poolFor size) ≤ freeBlocks h (poolFor size) → Follows h c (poolFor size)
 follows h c size within =
     ⊎-elim (λ did.
     ⊎-elim
-    (λ e. subst (Follows h c) (same-pool (argument c 2) size (sym e)) (lesser-is _ _ _ (marked-own h c did)))
+    (λ e. subst (Follows h c) (same-pool (argument c 2) size (sym e)) (smaller-of _ _ _ (marked-own h c did)))
     (λ ne. inr (marked-other h c did size ne, omega (arith, marked-other h c did size ne, free-other h c did size ne)))
     (eq-or (poolFor size .number) (its h c did .number)))
     (λ other.
