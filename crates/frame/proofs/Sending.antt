@@ -1,10 +1,12 @@
 -- Laws of the writer: the sum of bytes, what is sent for them and for a frame, and storing that in an area, piece after piece.
+use mathlib.Core.Bool.{Bool, true, false, cond}
 use mathlib.Core.List.{List, [], _∷_, _++_, append-assoc, append-nil}
 use mathlib.Core.Path.{_≡_, refl, sym, ap, _∙_}
-use Prim.Native.Nat.{ℕ, suc, _+_, _%_, _<_, _≤_}
+use Prim.Native.Nat.{ℕ, suc, _+_, _*_, _%_, _<_, _≤_}
 use native.Mathlib.Nat.{add-zero}
 use native.Mathlib.Numerals.{add-one}
 use native.Mathlib.Omega.{arith}
+use lib.Dec.{eqb}
 use lib.ListN.{length, getD, set, take, drop, length-append, drop-of-length-le}
 use lib.Seq.{sets, sets-eq, length-sets, take-suc, drop-cons}
 use Rattle.frame.specs.Stores.{stored, Puts}
@@ -19,10 +21,33 @@ pub sent-snoc : (u : List ℕ) (x : ℕ) → sentAll (u ++ (x ∷ [])) ≡ sentA
 unfolding sentAll
 sent-snoc u x = sent-append u (x ∷ []) ∙ ap (λ l. sentAll u ++ l) (append-nil (sent x))
 
+-- a byte is sent as two at most, and so has every frame room in 193
+sent-most : (b : ℕ) → length (sent b) ≤ 2
+unfolding sent
+sent-most b = go (eqb b 0x7E) (eqb b 0x7D)
+  where
+    go : (t v : Bool) → length (cond t (0x7D ∷ 0x5E ∷ []) (cond v (0x7D ∷ 0x5D ∷ []) (b ∷ []))) ≤ 2
+    go true v = omega arith
+    go false true = omega arith
+    go false false = omega arith
+
+sent-all-most : (l : List ℕ) → length (sentAll l) ≤ 2 * length l
+unfolding sentAll
+sent-all-most [] = omega arith
+sent-all-most (b ∷ l) = rw (length-append (sent b) (sentAll l)) (omega (arith, sent-most b, sent-all-most l))
+
+pub unescaped-length : (n k : ℕ) (d : List ℕ) → length (unescaped n k d) ≡ 3 + length d
+unfolding unescaped
+unescaped-length n k d = length-append (n ∷ k ∷ d) (checkOf (n ∷ k ∷ d) ∷ []) ∙ omega arith
+
+pub frame-most : (n k : ℕ) (d : List ℕ) → length d ≤ 93 → length (frameBytes n k d) ≤ 193
+unfolding frameBytes
+frame-most n k d h = rw (length-append (sentAll (unescaped n k d)) (0x7E ∷ [])) (omega (arith, sent-all-most (unescaped n k d), unescaped-length n k d))
+
 module _ (n k c : ℕ) (d : List ℕ) (e : c ≡ checkOf (n ∷ k ∷ d)) where
-  pub frame-sent : frameBytes n k d ≡ sent n ++ sent k ++ sentAll d ++ sent c ++ (126 ∷ [])
+  pub frame-sent : frameBytes n k d ≡ sent n ++ sent k ++ sentAll d ++ sent c ++ (0x7E ∷ [])
   unfolding frameBytes unescaped sentAll
-  frame-sent = rw (e, append-assoc (sent n) (sent k) (sentAll d)) (ap (λ l. l ++ (126 ∷ [])) (sent-snoc (n ∷ k ∷ d) (checkOf (n ∷ k ∷ d))))
+  frame-sent = rw (e, append-assoc (sent n) (sent k) (sentAll d)) (ap (λ l. l ++ (0x7E ∷ [])) (sent-snoc (n ∷ k ∷ d) (checkOf (n ∷ k ∷ d))))
 
   pub frame-length : length (frameBytes n k d) ≡ length (sent n) + length (sent k) + length (sentAll d) + length (sent c) + 1
   frame-length = rw frame-sent (simp length-append refl)
@@ -100,9 +125,9 @@ module _ (d : List ℕ) (i : ℕ) where
 -- A frame, part by part, and the byte that ends it.
 pub filled : (n k c : ℕ) (d : List ℕ) (out o₁ o₂ o₃ o₄ : List ℕ) (i₁ i₂ i₃ i₄ : ℕ) → c ≡ checkOf (n ∷ k ∷ d) →
     Puts out 0 (sent n) o₁ i₁ → Puts o₁ i₁ (sent k) o₂ i₂ → Puts o₂ i₂ (sentAll d) o₃ i₃ → Puts o₃ i₃ (sent c) o₄ i₄ →
-    set o₄ i₄ 126 ≡ stored out 0 (frameBytes n k d)
+    set o₄ i₄ 0x7E ≡ stored out 0 (frameBytes n k d)
 filled n k c d out o₁ o₂ o₃ o₄ i₁ i₂ i₃ i₄ e p₁ p₂ p₃ p₄ =
     let q₂ = puts-then _ _ _ _ _ _ _ _ p₁ p₂ in
     let q₃ = puts-then _ _ _ _ _ _ _ _ q₂ p₃ in
     let q₄ = puts-then _ _ _ _ _ _ _ _ q₃ p₄ in
-    puts-then _ _ _ _ _ _ _ _ q₄ (puts-one o₄ i₄ 126) .area-is ∙ ap (stored out 0) (sym (frame-sent n k c d e))
+    puts-then _ _ _ _ _ _ _ _ q₄ (puts-one o₄ i₄ 0x7E) .area-is ∙ ap (stored out 0) (sym (frame-sent n k c d e))

@@ -1,17 +1,17 @@
 -- Laws of a reader's steps: one byte more, and the frame that its bytes are.
 use mathlib.Core.Bool.{Bool, true, false}
-use mathlib.Core.List.{List, [], _∷_, _++_}
-use mathlib.Core.Path.{_≡_, refl, sym, ap, _∙_}
-use Prim.Native.Nat.{ℕ, suc, _+_, _-_, _<_, _≤_, min}
+use mathlib.Core.List.{List, [], _∷_}
+use mathlib.Core.Path.{_≡_, refl, _∙_}
+use Prim.Native.Nat.{ℕ, _+_, _-_, _<_, _≤_}
 use native.Mathlib.Numerals.{add-one}
 use native.Mathlib.Omega.{arith}
-use borrow.Author.Tests.{lt-ltb, le-ltb, lt-leb, le-leb, leb-true, eq-eqb, ne-eqb}
-use lib.Dec.{eqb, leb, ltb}
+use borrow.Author.Tests.{lt-ltb, le-ltb, lt-leb, le-leb, leb-true}
+use lib.Dec.{eqb}
 use lib.ListN.{length, getD, set, take, drop, length-set, length-take}
 use lib.Seq.{take-suc-set, take-take, take-add, drop-at, getD-take, length-take-le}
 use Rattle.ground.specs.Bools.{and-left}
 use Rattle.frame.specs.Inside.{partOf, Stands, Finishes}
-use Rattle.frame.specs.Reading.{Last, Frame, State, number, state, plain, spoilt, pushed, front, fits, gapAt, frame, ended, lastIn}
+use Rattle.frame.specs.Reading.{Last, number, state, plain, pushed, front, fits, gapAt, frame, ended, lastIn}
 use Rattle.frame.specs.Wire.{checkOf}
 
 -- One byte more: it is full, or there is room.

@@ -7,8 +7,8 @@ ghost use lib.ListN.{length};
 ghost use Rattle.frame.specs.Stores.{Puts, stored};
 ghost use Rattle.frame.specs.Wire.{checkOf, frameBytes, sent, sentAll};
 ghost use Rattle.frame.specs.Writing.{areaAfter, written};
-use std::num::wrapping_add_u8;
 use super::*;
+use std::num::wrapping_add_u8;
 
 // Whether a frame was written, how many bytes it has, and the number of the next.
 pub struct Written {

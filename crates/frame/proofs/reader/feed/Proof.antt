@@ -5,7 +5,7 @@ use native.Mathlib.Omega.{arith}
 use lib.ListN.{length, getD}
 use Rattle.frame.specs.Inside.{stateOf, partOf, lastOf}
 use Rattle.frame.specs.Reading.{state}
-use Rattle.frame.proofs.Feeding.{Quiet, quiet-start, quiet-turn, quiet-end, quiet-frame, whole}
+use Rattle.frame.proofs.Feeding.{SoFar, so-far-start, so-far-turn, so-far-end, so-far-frame, whole}
 use Rattle.frame.proofs.reader.feed.Statement.{statement}
 use Rattle.frame.proofs.reader.feed.Tie as tie
 
@@ -14,13 +14,13 @@ abbrev Inv-loop : tie.InvT-loop
 Inv-loop piece any last bytes₀ n₀ escaped₀ i₀ bytes n escaped i =
     (length bytes ≡ 96)
     × (i ≤ length piece)
-    × Quiet (state (partOf n₀ escaped₀ bytes₀) (lastOf any last)) piece i (state (partOf n escaped bytes) (lastOf any last))
+    × SoFar (state (partOf n₀ escaped₀ bytes₀) (lastOf any last)) piece i (state (partOf n escaped bytes) (lastOf any last))
 
 abbrev μ-loop : tie.MeasureT-loop
 μ-loop piece any last bytes₀ n₀ escaped₀ i₀ bytes n escaped i = length piece - i
 
 loop-holds : tie.Need-loop-holds Inv-loop μ-loop
-loop-holds c = (search needs, omega arith, quiet-start _ _)
+loop-holds c = (search needs, omega arith, so-far-start _ _)
 
 hand-out-requires : tie.Need-hand-out-requires Inv-loop μ-loop
 hand-out-requires c κs =
@@ -34,24 +34,26 @@ unfolding stateOf
 returns c =
     let l = c .before .before .before .before .before .before .loop in
     let t = c .before .before .before .before .before .loop-test .taken in
-    let f = c .hand-out .ensures in
-    (quiet-frame _ _ (l .i) _ _ _ (l .bytes) _ _ _ (l .inv .2) t (c .before .before .completes .ensures) (c .before .if1 .taken) (f .1) (f .0),
-      record { most = omega (arith, t, f .1); onward = λ h. omega (arith, f .1); small = f .2 })
+    let f = c .hand-out .ensures in (
+      so-far-frame _ _ (l .i) _ _ _ (l .bytes) _ _ _ (l .inv .2) t (c .before .before .completes .ensures) (c .before .if1 .taken) (f .1) (f .0),
+      record { most = omega (arith, t, f .1); onward = λ h. omega (arith, f .1); small = f .2 },
+    )
 
 loop-again : tie.Need-loop-again Inv-loop μ-loop
 loop-again c =
     let l = c .before .before .before .before .before .before .before .before .loop in
     let t = c .before .before .before .before .before .before .before .loop-test .taken in
-    (c .next-part .ensures .sized, omega (arith, t), rw (c .next-part .ensures .part) (quiet-turn _ _ (l .i) _ _ (l .inv .2) t (c .before .before .before .before .completes .ensures) (c .before .before .before .if1 .left)))
+    (c .next-part .ensures .sized, omega (arith, t), rw (c .next-part .ensures .part) (so-far-turn _ _ (l .i) _ _ (l .inv .2) t (c .before .before .before .before .completes .ensures) (c .before .before .before .if1 .left)))
 
 returns-2 : tie.Need-returns-2 Inv-loop μ-loop
 unfolding stateOf
 returns-2 c =
     let l = c .before .before .loop in
     let t = c .before .loop-test .left in
-    let f = c .hold-on .ensures in
-    (quiet-end _ _ (l .i) _ _ _ _ (l .inv .2) t (f .2) (f .0) (ap stateOf (f .1)),
-      record { most = omega (arith, l .inv .1, f .2); onward = λ h. omega (arith, t, f .2); small = f .3 })
+    let f = c .hold-on .ensures in (
+      so-far-end _ _ (l .i) _ _ _ _ (l .inv .2) t (f .2) (f .0) (ap stateOf (f .1)),
+      record { most = omega (arith, l .inv .1, f .2); onward = λ h. omega (arith, t, f .2); small = f .3 },
+    )
 
 pub feed-spec : {M : Type 1} → statement M
 feed-spec =
