@@ -7,8 +7,8 @@ use native.Mathlib.Nat.{add-zero}
 use native.Mathlib.Numerals.{add-one}
 use native.Mathlib.Omega.{arith}
 use lib.Dec.{eqb}
-use lib.ListN.{length, getD, set, take, drop, length-append, drop-of-length-le}
-use lib.Seq.{sets, sets-eq, length-sets, take-suc, drop-cons}
+use lib.ListN.{length, getD, set, take, drop, length-set, length-append, drop-of-length-le}
+use lib.Seq.{sets, sets-eq, take-suc, drop-cons}
 use Rattle.frame.specs.Stores.{stored, Puts}
 use Rattle.frame.specs.Wire.{sent, sentAll, sum, checkOf, unescaped, frameBytes}
 
@@ -74,10 +74,6 @@ pub stored-append : (l : List ℕ) (i : ℕ) (a b : List ℕ) → stored l i (a 
 unfolding stored
 stored-append l i a b = sets-append l i a b
 
-pub stored-length : (l v : List ℕ) (i : ℕ) → length (stored l i v) ≡ length l
-unfolding stored
-stored-length l v i = length-sets l i v
-
 pub stored-none : (l : List ℕ) (i : ℕ) → stored l i [] ≡ l
 unfolding stored
 stored-none l i = refl
@@ -87,16 +83,14 @@ pub stored-front : (l v : List ℕ) → length v ≤ length l → stored l 0 v �
 unfolding stored
 stored-front l v h = let e : 0 + length v ≡ length v = omega arith in sets-eq v l 0 (omega arith) ∙ ap (λ n. v ++ drop n l) e
 
-pub puts-length : (l v next : List ℕ) (i j : ℕ) → Puts l i v next j → length next ≡ length l
-puts-length l v next i j p = rw (p .area-is) (stored-length l v i)
-
 puts-one : (l : List ℕ) (i b : ℕ) → Puts l i (b ∷ []) (set l i b) (i + 1)
 unfolding stored
-puts-one l i b = record { place = refl; area-is = refl }
+puts-one l i b = record { place = refl; sized = length-set l i b; area-is = refl }
 
 pub puts-then : (l u v next last : List ℕ) (i j k : ℕ) → Puts l i u next j → Puts next j v last k → Puts l i (u ++ v) last k
 puts-then l u v next last i j k p q = record {
   place = rw (length-append u v) (omega (arith, p .place, q .place));
+  sized = q .sized ∙ p .sized;
   area-is = rw (stored-append l i u v, ← p .area-is, ← p .place) (q .area-is);
 }
 

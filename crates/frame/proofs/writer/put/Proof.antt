@@ -32,7 +32,7 @@ room-2 c = let e = rw (sent-flag _ (c .if1 .taken)) at (c .before .pre) in simp 
 
 returns : tie.Need-returns
 unfolding stored
-returns c = let e = sent-flag _ (c .if1 .taken) in record { place = rw e refl; area-is = rw (e, add-one) refl }
+returns c = let e = sent-flag _ (c .if1 .taken) in record { place = rw e refl; sized = simp length-set refl; area-is = rw (e, add-one) refl }
 
 room-3 : tie.Need-slice-write-out-3
 room-3 c = let e = rw (sent-escape _ (c .before .if1 .left) (c .if2 .taken)) at (c .before .before .pre) in omega (arith, e)
@@ -42,14 +42,14 @@ room-4 c = let e = rw (sent-escape _ (c .before .if1 .left) (c .if2 .taken)) at 
 
 returns-2 : tie.Need-returns-2
 unfolding stored
-returns-2 c = let e = sent-escape _ (c .before .if1 .left) (c .if2 .taken) in record { place = rw e refl; area-is = rw (e, add-one) refl }
+returns-2 c = let e = sent-escape _ (c .before .if1 .left) (c .if2 .taken) in record { place = rw e refl; sized = simp length-set refl; area-is = rw (e, add-one) refl }
 
 room-5 : tie.Need-slice-write-out-5
 room-5 c = let e = rw (sent-plain _ (c .before .if1 .left) (c .if2 .left)) at (c .before .before .pre) in omega (arith, e)
 
 returns-3 : tie.Need-returns-3
 unfolding stored
-returns-3 c = let e = sent-plain _ (c .before .if1 .left) (c .if2 .left) in record { place = rw e refl; area-is = rw e refl }
+returns-3 c = let e = sent-plain _ (c .before .if1 .left) (c .if2 .left) in record { place = rw e refl; sized = simp length-set refl; area-is = rw e refl }
 
 pub put-spec : {M : Type 1} → statement M
 put-spec =

@@ -5,7 +5,7 @@ use native.Mathlib.Omega.{arith}
 use lib.ListN.{length, drop}
 use Rattle.frame.specs.Stores.{stored}
 use Rattle.frame.specs.Wire.{sentAll}
-use Rattle.frame.proofs.Sending.{puts-length, size-turn, sent-end, put-turn, put-end}
+use Rattle.frame.proofs.Sending.{size-turn, sent-end, put-turn, put-end}
 use Rattle.frame.proofs.writer.put_all.Statement.{statement}
 use Rattle.frame.proofs.writer.put_all.Tie as tie
 
@@ -32,7 +32,7 @@ loop-again c =
     let d = c .before .before .before .before .before .before .before .before .before .args .bytes .now in
     let t = c .before .before .before .before .before .loop-test .taken in
     let p = c .before .before .put .ensures in (
-      puts-length _ _ _ _ _ p ∙ l .inv .0,
+      p .sized ∙ l .inv .0,
       omega (arith, size-turn d (l .i) t, l .inv .1, p .place),
       put-turn d (l .i) _ _ _ (l .inv .2) _ _ t p,
     )
@@ -42,7 +42,7 @@ returns c =
     let l = c .before .loop in
     let d = c .before .before .before .before .args .bytes .now in
     let e : length (sentAll (drop (l .i) d)) ≡ 0 = rw (sent-end d (l .i) (c .loop-test .left)) refl in
-    record { place = omega (arith, e, l .inv .1); area-is = put-end d (l .i) _ _ _ (l .inv .2) (c .loop-test .left) }
+    record { place = omega (arith, e, l .inv .1); sized = l .inv .0; area-is = put-end d (l .i) _ _ _ (l .inv .2) (c .loop-test .left) }
 
 pub put-all-spec : {M : Type 1} → statement M
 put-all-spec =
