@@ -5,5 +5,6 @@
 //! favours the documents' own words over speed.
 
 pub mod chart;
+pub mod frame;
 pub mod harness;
 pub mod kernel;

@@ -1,12 +1,13 @@
 //! Writes random traces, and what the model answers to them.
 
+use model::harness::files::{read_charts, write_charts, write_run};
 use model::harness::traces::areas::Calls;
 use model::harness::traces::coverage::Coverage;
 use model::harness::traces::{show, Trace};
 use model::kernel::numbers::REPLY_BYTES;
-use model::kernel::replay::{replay, Charts};
+use model::kernel::replay::replay;
 use std::fs;
-use std::io::{self, BufWriter, ErrorKind, Read, Write};
+use std::io::{self, BufWriter, Read, Write};
 use std::path::{Path, PathBuf};
 use std::process::ExitCode;
 
@@ -131,12 +132,6 @@ fn answer(request: &Request) -> io::Result<()> {
     out.flush()
 }
 
-/// What the crate of a program is run on, and what it must write.
-fn write_run(program: &Path, input: &[u8], output: &[u8]) -> io::Result<()> {
-    fs::write(program.join("stdin"), input)?;
-    fs::write(program.join("stdout"), output)
-}
-
 /// The traces of the program `vectors`: for each the letter of its folder of charts, its length, and
 /// its records.
 fn write_vectors(program: &Path, traces: &[(u64, usize)]) -> io::Result<()> {
@@ -155,46 +150,10 @@ fn write_vectors(program: &Path, traces: &[(u64, usize)]) -> io::Result<()> {
     write_run(program, &input, &output)
 }
 
-/// An empty chart becomes a missing file.
+/// The trace with the model's replies, in a folder of their own.
 fn write_trace(trace: &Trace, directory: &Path) -> io::Result<()> {
     fs::create_dir_all(directory)?;
     fs::write(directory.join("trace"), &trace.records)?;
     fs::write(directory.join("replies"), &trace.replies)?;
     write_charts(&trace.charts, directory)
-}
-
-fn write_charts(charts: &Charts, directory: &Path) -> io::Result<()> {
-    fs::create_dir_all(directory)?;
-    for (number, chart) in charts.iter().enumerate() {
-        let path = chart_path(directory, number);
-        match chart.is_empty() {
-            // One of another trace may be left there.
-            true => remove_if_there(&path)?,
-            false => fs::write(path, chart)?,
-        }
-    }
-    Ok(())
-}
-
-fn remove_if_there(path: &Path) -> io::Result<()> {
-    match fs::remove_file(path) {
-        Err(error) if error.kind() == ErrorKind::NotFound => Ok(()),
-        other => other,
-    }
-}
-
-fn read_charts(directory: &Path) -> io::Result<Charts> {
-    let mut charts = Charts::default();
-    for (number, chart) in charts.iter_mut().enumerate() {
-        match fs::read(chart_path(directory, number)) {
-            Ok(bytes) => *chart = bytes,
-            Err(error) if error.kind() == ErrorKind::NotFound => {}
-            Err(error) => return Err(error),
-        }
-    }
-    Ok(charts)
-}
-
-fn chart_path(directory: &Path, number: usize) -> PathBuf {
-    directory.join(format!("chart{number}"))
 }

@@ -1,8 +1,10 @@
-//! Test inputs: hard charts, bad charts, random charts, random traces, and how they are written out.
+//! Test inputs: hard charts, bad charts, random charts, random traces, frames, and how they are written out.
 
 pub mod bad;
 pub mod builder;
 pub mod cases;
+pub mod files;
+pub mod frames;
 pub mod good;
 pub mod random;
 pub mod report;

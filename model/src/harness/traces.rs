@@ -5,6 +5,7 @@ pub mod coverage;
 mod opening;
 mod pick;
 pub mod show;
+pub mod words;
 
 use super::bad::{self, BadChart};
 use super::good;
