@@ -7,7 +7,7 @@ use native.Mathlib.Numerals.{add-one}
 use native.Mathlib.Omega.{arith}
 use borrow.Author.Tests.{lt-ltb, le-ltb, lt-leb, le-leb, leb-true}
 use lib.Dec.{eqb}
-use lib.ListN.{length, getD, set, take, drop, length-set, length-take}
+use lib.ListN.{length, getD, set, take, drop, length-set, length-take, length-drop}
 use lib.Seq.{take-suc-set, take-take, take-add, drop-at, getD-take, length-take-le}
 use Rattle.ground.specs.Bools.{and-left}
 use Rattle.frame.specs.Inside.{partOf, Stands, Finishes}
@@ -52,6 +52,9 @@ module _ (s : List ℕ) (n : ℕ) (l : n ≤ length s) where
   part-data h =
       let e : n - 1 ≡ 2 + (n - 3) = omega arith in
       rw (e, take-add 2 (n - 3) s) (drop-at (take 2 s) (take (n - 3) (drop 2 s)) 2 (length-take-le 2 s (omega arith)))
+
+  pub data-length : length (take (n - 3) (drop 2 s)) ≡ n - 3
+  data-length = length-take-le (n - 3) (drop 2 s) (rw (length-drop 2 s) (omega arith))
 
   whole-ended : (m : Last) → fits (take n s) ≡ true →
       record { number = getD s 0 0; kind = getD s 1 0; bytes = take (n - 3) (drop 2 s); gap = gapAt m (getD s 0 0) } ∷ [] ≡ ended (plain (take n s)) m

@@ -7,7 +7,7 @@ ghost use lib.Dec.{eqb};
 ghost use lib.ListN.{length, take};
 ghost use Rattle.frame.specs.Inside.{Finishes, Stands, isWhole, lastOf, nextPart, partOf};
 ghost use Rattle.frame.specs.Reading.{Feeds, fits, fresh, gapAt, pushed, taken};
-ghost use Rattle.frame.specs.View.{Within, framesOf, stateOf};
+ghost use Rattle.frame.specs.View.{Within, fedOf, framesOf, stateOf};
 use super::*;
 
 // The fewest bytes that a frame has unescaped: a number, a record number and the check byte.
@@ -157,7 +157,7 @@ fn gap_at(any: bool, last: u8, number: u8) -> bool
 // The first n bytes are a frame: hands it out.
 fn hand_out(bytes: [u8; MOST_BYTES], n: u8, any: bool, last: u8, read: usize) -> Fed
     requires { ⌜ (n ≤ 96) × (fits (take n bytes) ≡ true) ⌝ }
-    ensures { λ f. ⌜ Finishes (take n bytes) (lastOf any last) (framesOf f) (stateOf (f .reader)) × (f .read ≡ read) × (f .size ≤ 93) ⌝ }
+    ensures { λ f. ⌜ Finishes (take n bytes) (lastOf any last) (framesOf f) (stateOf (f .reader)) × (f .read ≡ read) × (f .size ≤ 93) × (f ≡ fedOf (f .reader) (f .read) (framesOf f)) ⌝ }
 {
     let number = bytes[0];
     let reader = Reader {
@@ -180,7 +180,7 @@ fn hand_out(bytes: [u8; MOST_BYTES], n: u8, any: bool, last: u8, read: usize) ->
 
 // Nothing is complete yet.
 fn hold_on(reader: Reader, read: usize) -> Fed
-    ensures { λ f. ⌜ (framesOf f ≡ []) × (f .reader ≡ reader) × (f .read ≡ read) × (f .size ≤ 93) ⌝ }
+    ensures { λ f. ⌜ (framesOf f ≡ []) × (f .reader ≡ reader) × (f .read ≡ read) × (f .size ≤ 93) × (f ≡ fedOf (f .reader) (f .read) (framesOf f)) ⌝ }
 {
     Fed {
         reader,
@@ -196,7 +196,7 @@ fn hold_on(reader: Reader, read: usize) -> Fed
 // Reads a piece up to and with the first byte that completes a frame, else all of it.
 pub fn feed(r: Reader, piece: &[u8]) -> Fed
     ensures { λ f. ⌜ Feeds (stateOf r) (now (piece .entry)) (f .read) (framesOf f) (stateOf (f .reader)) ⌝ }
-    ensures { λ f. ⌜ Within (now (piece .entry)) (f .read) (f .size) ⌝ }
+    ensures { λ f. ⌜ Within (now (piece .entry)) f ⌝ }
 {
     let any = r.any;
     let last = r.last;

@@ -36,7 +36,7 @@ returns c =
     let t = c .before .before .before .before .before .loop-test .taken in
     let f = c .hand-out .ensures in (
       so-far-frame _ _ (l .i) _ _ _ (l .bytes) _ _ _ (l .inv .2) t (c .before .before .completes .ensures) (c .before .if1 .taken) (f .1) (f .0),
-      record { most = omega (arith, t, f .1); onward = λ h. omega (arith, f .1); small = f .2 },
+      record { most = omega (arith, t, f .1); onward = λ h. omega (arith, f .1); small = f .2; rest = f .3 },
     )
 
 loop-again : tie.Need-loop-again Inv-loop μ-loop
@@ -52,7 +52,7 @@ returns-2 c =
     let t = c .before .loop-test .left in
     let f = c .hold-on .ensures in (
       so-far-end _ _ (l .i) _ _ _ _ (l .inv .2) t (f .2) (f .0) (ap stateOf (f .1)),
-      record { most = omega (arith, l .inv .1, f .2); onward = λ h. omega (arith, t, f .2); small = f .3 },
+      record { most = omega (arith, l .inv .1, f .2); onward = λ h. omega (arith, t, f .2); small = f .3; rest = f .4 },
     )
 
 pub feed-spec : {M : Type 1} → statement M
