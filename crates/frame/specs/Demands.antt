@@ -7,7 +7,7 @@ use Prim.Native.Nat.{ℕ, _≤_}
 use lib.ListN.{length, take, drop}
 use Rattle.frame.specs.Reading.{State, Last, Frame, plain, state, fresh, frame, given, givenAll, afterAll, Feeds}
 use Rattle.frame.specs.Terms.{Sent, stream, asSent, resumed, Starts, lastOut, Intact}
-use Rattle.frame.specs.Wire.{frameBytes}
+use Rattle.frame.specs.Wire.{mostData, frameBytes}
 use Rattle.frame.specs.Writing.{written, areaAfter}
 
 -- "The reader takes input in pieces cut anywhere and gives the same records."
@@ -43,7 +43,7 @@ OnlyIntact = (l : List ℕ) (b : ℕ) → (length (given (afterAll fresh l) b) �
 
 -- An area of 193 bytes has room for every frame.
 abbrev pub Longest : Type 0
-Longest = (n k : ℕ) (d : List ℕ) → length d ≤ 93 → length (frameBytes n k d) ≤ 193
+Longest = (n k : ℕ) (d : List ℕ) → length d ≤ mostData → length (frameBytes n k d) ≤ 193
 
 -- The book's example.
 abbrev pub Book : Type 0

@@ -6,15 +6,16 @@ use Prim.Native.Nat.{ℕ}
 use lib.Dec.{eqb, ltb}
 use lib.ListN.{length, take}
 use Rattle.frame.specs.Reading.{Part, Last, State, Frame, plain, escaped, spoilt, none, number, state, taken, fits, ended, lastIn}
+use Rattle.frame.specs.Wire.{mostBytes}
 use Rattle.frame.specs.declared.reader.Reader.{Reader}
 
 -- The first n bytes, and whether 0x7D came behind them.
 unfoldable pub partOf : ℕ → Bool → List ℕ → Part
-partOf n e l = cond (ltb 96 n) spoilt (cond e (escaped (take n l)) (plain (take n l)))
+partOf n e l = cond (ltb mostBytes n) spoilt (cond e (escaped (take n l)) (plain (take n l)))
 
 -- The array has its length, and stands for the part p.
 pub record Stands (bytes : List ℕ) (n : ℕ) (e : Bool) (p : Part) : Type 0 where
-  pub sized : length bytes ≡ 96
+  pub sized : length bytes ≡ mostBytes
   pub part : partOf n e bytes ≡ p
 
 unfoldable pub lastOf : Bool → ℕ → Last

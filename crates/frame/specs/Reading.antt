@@ -5,7 +5,7 @@ use mathlib.Core.Path.{_≡_}
 use Prim.Native.Nat.{ℕ, suc, _-_}
 use lib.Dec.{eqb, leb, ltb}
 use lib.ListN.{length, getD, take, drop}
-use Rattle.frame.specs.Wire.{checkOf, following}
+use Rattle.frame.specs.Wire.{mostBytes, checkOf, following}
 
 -- What has come since the last 0x7E: bytes (unescaped), the same and then 0x7D, or what can be no frame any more.
 pub data Part : Type 0 where
@@ -35,9 +35,9 @@ state p m = record { part = p; last = m }
 abbrev pub fresh : State
 fresh = state (plain []) none
 
--- One byte more; a frame has at most 96.
+-- One byte more, as far as a frame may have them.
 unfoldable pub pushed : List ℕ → ℕ → Part
-pushed l b = cond (ltb (length l) 96) (plain (l ++ (b ∷ []))) spoilt
+pushed l b = cond (ltb (length l) mostBytes) (plain (l ++ (b ∷ []))) spoilt
 
 -- A byte that is not 0x7E: 0x7D is followed by 0x5E or 0x5D.
 unfoldable pub taken : Part → ℕ → Part

@@ -6,13 +6,13 @@ use mathlib.Core.Path.{_≡_}
 use Prim.Native.Nat.{ℕ, _≤_}
 use lib.ListN.{length}
 use Rattle.frame.specs.Reading.{Frame, Last, none, fresh, gapAt, frame, lastIn, givenAll}
-use Rattle.frame.specs.Wire.{frameBytes, following}
+use Rattle.frame.specs.Wire.{mostData, frameBytes, following}
 
 -- What is sent as one frame: a record number, and as many bytes of data as a frame may have.
 pub record Sent : Type 0 where
   pub kind : ℕ
   pub bytes : List ℕ
-  pub short : length bytes ≤ 93
+  pub short : length bytes ≤ mostData
 
 -- The bytes of frames as a writer writes them, one after the other, numbered on from n.
 unfoldable pub stream : ℕ → List Sent → List ℕ
@@ -46,5 +46,5 @@ pub record EndsIn (l t : List ℕ) : Type 0 where
 -- The frame f is the one that ends with byte b, behind the bytes l.
 pub record Intact (l : List ℕ) (b : ℕ) (f : Frame) : Type 0 where
   pub bytes : EndsIn (l ++ (b ∷ [])) (frameBytes (f .number) (f .kind) (f .bytes))
-  pub short : length (f .bytes) ≤ 93
+  pub short : length (f .bytes) ≤ mostData
   pub gap : f .gap ≡ gapAt (lastOut l) (f .number)

@@ -5,6 +5,7 @@ use mathlib.Core.Path.{_≡_}
 use Prim.Native.Nat.{ℕ, _<_, _≤_}
 use lib.ListN.{length, take, drop}
 use Rattle.frame.specs.Reading.{Frame}
+use Rattle.frame.specs.Wire.{mostData}
 use Rattle.frame.specs.declared.reader.Fed.{Fed}
 use Rattle.frame.specs.declared.reader.Reader.{Reader}
 pub use Rattle.frame.specs.Inside.{stateOf}
@@ -25,5 +26,5 @@ fedOf r n (f ∷ l) = record { reader = r; read = n; complete = true; number = f
 pub record Within (piece : List ℕ) (f : Fed) : Type 0 where
   pub most : f .read ≤ length piece
   pub onward : 0 < length piece → 0 < f .read
-  pub small : f .size ≤ 93
+  pub small : f .size ≤ mostData
   pub rest : f ≡ fedOf (f .reader) (f .read) (framesOf f)

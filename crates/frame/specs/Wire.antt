@@ -4,6 +4,13 @@ use mathlib.Core.List.{List, [], _∷_, _++_}
 use Prim.Native.Nat.{ℕ, _+_, _-_, _%_}
 use lib.Dec.{eqb}
 
+-- The most bytes of data, and the most that a frame has unescaped.
+abbrev pub mostData : ℕ
+mostData = 93
+
+abbrev pub mostBytes : ℕ
+mostBytes = 96
+
 -- 0x7E and 0x7D are sent as 0x7D and the byte XOR 0x20, any other byte as it is.
 unfoldable pub sent : ℕ → List ℕ
 sent b = cond (eqb b 0x7E) (0x7D ∷ 0x5E ∷ []) (cond (eqb b 0x7D) (0x7D ∷ 0x5D ∷ []) (b ∷ []))

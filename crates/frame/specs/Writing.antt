@@ -4,12 +4,12 @@ use mathlib.Core.List.{List, _++_}
 use Prim.Native.Nat.{ℕ}
 use lib.Dec.{ltb}
 use lib.ListN.{length, drop}
-use Rattle.frame.specs.Wire.{frameBytes, following}
+use Rattle.frame.specs.Wire.{mostData, frameBytes, following}
 use Rattle.frame.specs.declared.writer.Written.{Written}
 
--- More than 93 bytes of data, or an area too small for the frame.
+-- Too many bytes of data, or an area too small for the frame.
 unfoldable pub refused : ℕ → ℕ → ℕ → List ℕ → Bool
-refused room n k d = ltb 93 (length d) || ltb room (length (frameBytes n k d))
+refused room n k d = ltb mostData (length d) || ltb room (length (frameBytes n k d))
 
 -- A refusal writes nothing and keeps the number.
 unfoldable pub written : ℕ → ℕ → ℕ → List ℕ → Written

@@ -8,6 +8,7 @@ ghost use lib.ListN.{length, take};
 ghost use Rattle.frame.specs.Inside.{Finishes, Stands, isWhole, lastOf, nextPart, partOf};
 ghost use Rattle.frame.specs.Reading.{Feeds, fits, fresh, gapAt, pushed, taken};
 ghost use Rattle.frame.specs.View.{Within, fedOf, framesOf, stateOf};
+ghost use Rattle.frame.specs.Wire.{mostBytes, mostData};
 use super::*;
 
 // The fewest bytes that a frame has unescaped: a number, a record number and the check byte.
@@ -62,7 +63,7 @@ pub fn new_reader() -> Reader
 
 // One unescaped byte more, behind the first n.
 fn push(bytes: &mut [u8; MOST_BYTES], n: u8, b: u8) -> Part
-    requires { ⌜ length (now bytes) ≡ 96 ⌝ }
+    requires { ⌜ length (now bytes) ≡ mostBytes ⌝ }
     ensures { λ r. ⌜ Stands (now (bytes .exit)) (r .length) (r .escaped) (pushed (take n (now (bytes .entry))) b) ⌝ }
 {
     let at = n as usize;
@@ -81,7 +82,7 @@ fn push(bytes: &mut [u8; MOST_BYTES], n: u8, b: u8) -> Part
 
 // A byte that is not FLAG.
 fn take_in(bytes: &mut [u8; MOST_BYTES], n: u8, escaped: bool, b: u8) -> Part
-    requires { ⌜ length (now bytes) ≡ 96 ⌝ }
+    requires { ⌜ length (now bytes) ≡ mostBytes ⌝ }
     ensures { λ r. ⌜ Stands (now (bytes .exit)) (r .length) (r .escaped) (taken (partOf n escaped (now (bytes .entry))) b) ⌝ }
 {
     if MOST_BYTES < n as usize {
@@ -110,7 +111,7 @@ fn take_in(bytes: &mut [u8; MOST_BYTES], n: u8, escaped: bool, b: u8) -> Part
 
 // Any byte: with FLAG the next frame starts.
 fn next_part(bytes: &mut [u8; MOST_BYTES], n: u8, escaped: bool, b: u8) -> Part
-    requires { ⌜ length (now bytes) ≡ 96 ⌝ }
+    requires { ⌜ length (now bytes) ≡ mostBytes ⌝ }
     ensures { λ r. ⌜ Stands (now (bytes .exit)) (r .length) (r .escaped) (nextPart (partOf n escaped (now (bytes .entry))) b) ⌝ }
 {
     if b == FLAG {
@@ -124,7 +125,7 @@ fn next_part(bytes: &mut [u8; MOST_BYTES], n: u8, escaped: bool, b: u8) -> Part
 
 // Whether a byte completes a frame.
 fn completes(bytes: &[u8; MOST_BYTES], n: u8, escaped: bool, b: u8) -> bool
-    requires { ⌜ length (now bytes) ≡ 96 ⌝ }
+    requires { ⌜ length (now bytes) ≡ mostBytes ⌝ }
     ensures { λ r. ⌜ r ≡ (eqb b 0x7E && isWhole (partOf n escaped (now (bytes .entry)))) ⌝ }
 {
     if b != FLAG {
@@ -156,8 +157,8 @@ fn gap_at(any: bool, last: u8, number: u8) -> bool
 
 // The first n bytes are a frame: hands it out.
 fn hand_out(bytes: [u8; MOST_BYTES], n: u8, any: bool, last: u8, read: usize) -> Fed
-    requires { ⌜ (n ≤ 96) × (fits (take n bytes) ≡ true) ⌝ }
-    ensures { λ f. ⌜ Finishes (take n bytes) (lastOf any last) (framesOf f) (stateOf (f .reader)) × (f .read ≡ read) × (f .size ≤ 93) × (f ≡ fedOf (f .reader) (f .read) (framesOf f)) ⌝ }
+    requires { ⌜ (n ≤ mostBytes) × (fits (take n bytes) ≡ true) ⌝ }
+    ensures { λ f. ⌜ Finishes (take n bytes) (lastOf any last) (framesOf f) (stateOf (f .reader)) × (f .read ≡ read) × (f .size ≤ mostData) × (f ≡ fedOf (f .reader) (f .read) (framesOf f)) ⌝ }
 {
     let number = bytes[0];
     let reader = Reader {
@@ -180,7 +181,7 @@ fn hand_out(bytes: [u8; MOST_BYTES], n: u8, any: bool, last: u8, read: usize) ->
 
 // Nothing is complete yet.
 fn hold_on(reader: Reader, read: usize) -> Fed
-    ensures { λ f. ⌜ (framesOf f ≡ []) × (f .reader ≡ reader) × (f .read ≡ read) × (f .size ≤ 93) × (f ≡ fedOf (f .reader) (f .read) (framesOf f)) ⌝ }
+    ensures { λ f. ⌜ (framesOf f ≡ []) × (f .reader ≡ reader) × (f .read ≡ read) × (f .size ≤ mostData) × (f ≡ fedOf (f .reader) (f .read) (framesOf f)) ⌝ }
 {
     Fed {
         reader,

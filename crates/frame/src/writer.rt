@@ -2,10 +2,10 @@
 ghost use mathlib.Core.Bool.{false};
 ghost use mathlib.Core.List.{_∷_};
 ghost use mathlib.Core.Path.{_≡_};
-ghost use Prim.Native.Nat.{_+_, _≤_};
+ghost use Prim.Native.Nat.{_*_, _+_, _≤_};
 ghost use lib.ListN.{length};
 ghost use Rattle.frame.specs.Stores.{Puts, stored};
-ghost use Rattle.frame.specs.Wire.{checkOf, frameBytes, sent, sentAll};
+ghost use Rattle.frame.specs.Wire.{checkOf, frameBytes, mostData, sent, sentAll};
 ghost use Rattle.frame.specs.Writing.{areaAfter, written};
 use super::*;
 use std::num::wrapping_add_u8;
@@ -32,8 +32,8 @@ fn size_of(b: u8) -> usize
 
 // How many bytes are sent for several.
 fn sizes(bytes: &[u8]) -> usize
-    requires { ⌜ length (now bytes) ≤ 93 ⌝ }
-    ensures { λ r. ⌜ (r ≡ length (sentAll (now (bytes .entry)))) × (r ≤ 186) ⌝ }
+    requires { ⌜ length (now bytes) ≤ mostData ⌝ }
+    ensures { λ r. ⌜ (r ≡ length (sentAll (now (bytes .entry)))) × (r ≤ 2 * mostData) ⌝ }
 {
     let mut t = 0;
     let mut i = 0;
@@ -87,7 +87,7 @@ fn check_of(number: u8, kind: u8, bytes: &[u8]) -> u8
 
 // How many bytes are sent for a frame.
 fn frame_size(number: u8, kind: u8, bytes: &[u8], check: u8) -> usize
-    requires { ⌜ (length (now bytes) ≤ 93) × (check ≡ checkOf (number ∷ kind ∷ now bytes)) ⌝ }
+    requires { ⌜ (length (now bytes) ≤ mostData) × (check ≡ checkOf (number ∷ kind ∷ now bytes)) ⌝ }
     ensures { λ r. ⌜ r ≡ length (frameBytes number kind (now (bytes .entry))) ⌝ }
 {
     size_of(number) + size_of(kind) + sizes(bytes) + size_of(check) + 1
