@@ -17,8 +17,8 @@
 use input::low_byte_first;
 use input::read_exactly;
 use numbers::REPLY_BYTES;
-use text::Line;
 use text::sum_of;
+use text::with_named;
 
 // Each area that is kept is one byte longer than the kernel's.
 pub const PAYLOADS_ROOM: usize = numbers::PAYLOAD_AREA + 1;
@@ -92,10 +92,6 @@ pub fn poke(head: Head, tables: &mut [u8]) {
     if head.is_poke && offset < tables.len() {
         tables[offset] = head.byte;
     }
-}
-
-fn with_named(line: Line, name: &[u8], number: u64) -> Line {
-    text::with_number(text::with_bytes(line, name), number)
 }
 
 pub fn write_line(

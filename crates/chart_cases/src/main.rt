@@ -10,6 +10,7 @@ use numbers::ROW_BYTES;
 use numbers::SLOT_BYTES;
 use text::sum_of;
 use text::wide;
+use text::with_named;
 
 // More than any chart that is good, for charts that are too long.
 const BUFFER_BYTES: usize = 11200;
@@ -63,7 +64,7 @@ fn write_rows(table: &[u8]) {
 }
 
 fn write_named(name: &[u8], number: u64) {
-    text::write(text::with_number(text::with_bytes(text::empty(), name), number));
+    text::write(with_named(text::empty(), name, number));
 }
 
 fn run_chart(chart: &[u8], rows: bool) {
@@ -101,12 +102,9 @@ fn run_rest() {
 // Writes what the flattener answers for a slot that has another length, and the slot's sum.
 fn try_slot(chart: &[u8], slot: &mut [u8]) {
     let answer = flattener::chart_flatten(chart, slot);
-    let length = text::with_number(
-        text::with_bytes(text::empty(), b"length "),
-        slot.len() as u64,
-    );
-    let answered = text::with_number(text::with_bytes(length, b" answer "), answer as u64);
-    text::write(text::with_number(text::with_bytes(answered, b" sum "), sum_of(slot)));
+    let length = with_named(text::empty(), b"length ", slot.len() as u64);
+    let answered = with_named(length, b" answer ", answer as u64);
+    text::write(with_named(answered, b" sum ", sum_of(slot)));
 }
 
 // The slot is a part of an array that is one byte longer than a slot should be.

@@ -18,6 +18,9 @@ const CHART_BYTES: usize = numbers::LONGEST_CHART + 1;
 // The folder in which a program is started, by a letter as every folder of charts.
 pub const HERE: u8 = b'.';
 
+// More bytes than any trace has.
+pub const ALL: u64 = u64::MAX;
+
 const SLOTS: u8 = numbers::SLOTS as u8;
 
 const RECORD: u64 = RECORD_BYTES as u64;
@@ -111,23 +114,64 @@ fn read_piece(left: u64) -> Piece
     Piece { n, bytes }
 }
 
-// A trace in play: its kernel, and how many bytes of it may be left; 0 once it has ended.
-struct Run {
-    kernel: Kernel,
-    left: u64,
+// How replies are written: as they are, or each as a frame, numbered on from 0.
+pub enum Replies {
+    Plain,
+    Framed,
 }
 
-// Writes a reply, and tells where it cannot be written.
-fn write_reply(reply: [u8; REPLY_BYTES]) -> bool {
-    if io::write_all(libc::STDOUT_FILENO, &reply) {
+// Whether a reply could be written, and the number of the next frame.
+struct Sent {
+    done: bool,
+    next: u8,
+}
+
+// Writes what stands for a reply, and tells where it cannot be written.
+fn write_out(bytes: &[u8]) -> bool {
+    if io::write_all(libc::STDOUT_FILENO, bytes) {
         return true;
     }
     os::fail(b"a reply");
     false
 }
 
+// Writes a reply as a frame. The record number is the command's, since a reply does not say which command it answers.
+fn write_frame(number: u8, command: u8, reply: [u8; REPLY_BYTES]) -> Sent {
+    let mut bytes = [0u8; frame::LONGEST];
+    let written = frame::writer::write(number, command, &reply, &mut bytes);
+    let length = written.length;
+    Sent {
+        done: write_out(&bytes[..length]),
+        next: written.next,
+    }
+}
+
+fn write_reply(replies: Replies, number: u8, command: u8, reply: [u8; REPLY_BYTES]) -> Sent {
+    match replies {
+        Replies::Plain => Sent {
+            done: write_out(&reply),
+            next: number,
+        },
+        Replies::Framed => write_frame(number, command, reply),
+    }
+}
+
+// A trace in play: its kernel, how many bytes of it may be left, 0 once it has ended, and the number of the next frame.
+struct Run {
+    kernel: Kernel,
+    left: u64,
+    number: u8,
+}
+
 // Reads a piece, has it answered, and writes the reply. The run ends with the input, or where a reply cannot be written.
-fn turn(run: Run, folder: u8, payloads: &mut [u8], tables: &mut [u8], log: &mut [u8]) -> Run
+fn turn(
+    run: Run,
+    folder: u8,
+    replies: Replies,
+    payloads: &mut [u8],
+    tables: &mut [u8],
+    log: &mut [u8],
+) -> Run
     requires { ⌜ Good (run .kernel) ⌝ }
     requires { ⌜ 0 < run .left ⌝ }
     ensures { λ r. ⌜ Good (r .kernel) ⌝ }
@@ -138,39 +182,43 @@ fn turn(run: Run, folder: u8, payloads: &mut [u8], tables: &mut [u8], log: &mut 
     let piece = read_piece(left);
     let n = piece.n;
     if n == 0 {
-        return Run { kernel: k, left: 0 };
+        return Run { left: 0, ..run };
     }
     let bytes = piece.bytes;
     let answered = answer(k, &bytes[..n], folder, payloads, tables, log);
     let next = answered.kernel;
     let reply = answered.reply;
-    if !write_reply(reply) {
-        return Run {
-            kernel: next,
-            left: 0,
-        };
-    }
+    let sent = write_reply(replies, run.number, bytes[0], reply);
     Run {
         kernel: next,
-        left: left - n as u64,
+        left: if sent.done { left - n as u64 } else { 0 },
+        number: sent.next,
     }
 }
 
 // A proved loop has to end, and nothing says that the input does: so what may be left of the trace falls.
-fn play_on(most: u64, folder: u8, payloads: &mut [u8], tables: &mut [u8], log: &mut [u8]) {
+fn play_on(
+    most: u64,
+    folder: u8,
+    replies: Replies,
+    payloads: &mut [u8],
+    tables: &mut [u8],
+    log: &mut [u8],
+) {
     let mut run = Run {
         kernel: kernel::fresh(),
         left: most,
+        number: 0,
     };
     while 0 < run.left {
-        run = turn(run, folder, payloads, tables, log);
+        run = turn(run, folder, replies, payloads, tables, log);
     }
 }
 
 // Plays a trace of standard input from a fresh start, at most so many bytes, with the charts of a folder.
-pub fn play(most: u64, folder: u8) {
+pub fn play(most: u64, folder: u8, replies: Replies) {
     let mut payloads = [0u8; PAYLOAD_AREA];
     let mut tables = [0u8; TABLE_AREA];
     let mut log = [0u8; LOG_AREA];
-    play_on(most, folder, &mut payloads, &mut tables, &mut log);
+    play_on(most, folder, replies, &mut payloads, &mut tables, &mut log);
 }

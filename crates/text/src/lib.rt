@@ -49,11 +49,37 @@ pub fn with_number(line: Line, number: u64) -> Line {
     with_bytes(line, &digits[..count])
 }
 
+// The number behind its name.
+pub fn with_named(line: Line, name: &[u8], number: u64) -> Line {
+    with_number(with_bytes(line, name), number)
+}
+
 // A byte as a number. To pass an element asks no proof that it fits, where a cast of it would.
 pub fn wide(byte: u8) -> u64
     ensures { λ r. ⌜ r ≤ 255 ⌝ }
 {
     byte as u64
+}
+
+// The spaces that a byte in decimal leaves of three columns, which are enough for any.
+fn with_margin(line: Line, byte: u8) -> Line {
+    if byte < 10 {
+        return with_bytes(line, b"  ");
+    }
+    if byte < 100 {
+        return with_bytes(line, b" ");
+    }
+    line
+}
+
+// A byte in decimal, at the left of three columns.
+pub fn with_byte_left(line: Line, byte: u8) -> Line {
+    with_margin(with_number(line, wide(byte)), byte)
+}
+
+// A byte in decimal, at the right of three columns.
+pub fn with_byte_right(line: Line, byte: u8) -> Line {
+    with_number(with_margin(line, byte), wide(byte))
 }
 
 // The bytes in decimal, each after a space.

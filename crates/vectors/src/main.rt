@@ -1,6 +1,7 @@
 // Plays the random traces of standard input, which the model made with the replies that are to be written.
 //
 // A trace is the letter of its folder of charts, its length in two bytes, low byte first, and its bytes.
+use player::Replies;
 
 // Plays the next trace, and answers whether there was one.
 fn play_next() -> bool {
@@ -11,6 +12,7 @@ fn play_next() -> bool {
     player::play(
         input::low_byte_first(header[1], header[2]) as u64,
         header[0],
+        Replies::Plain,
     );
     true
 }

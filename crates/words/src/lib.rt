@@ -11,6 +11,7 @@
 //     FRESH                                   no record, but a mark: here a trace begins
 use check::same;
 use input::Letter;
+use names::COLUMNS;
 use numbers::RECORD_BYTES;
 use numbers::command;
 use text::Line;
@@ -18,8 +19,6 @@ use text::Line;
 const COMMAND_RECORD: u8 = 72;
 
 const CHART_RECORD: u8 = 8;
-
-const WORD_BYTES: usize = 12;
 
 // Where the payload of a command record begins.
 const PAYLOAD: usize = 8;
@@ -38,10 +37,10 @@ const PIECE: u8 = 203;
 
 pub const FRESH: u8 = 204;
 
-// A name or a number, as far as it was read.
+// A name or a number, as far as it was read: its first letters, as many as tell names apart, and spaces behind them.
 struct Word {
     letters: u8,
-    text: [u8; WORD_BYTES],
+    text: [u8; COLUMNS],
     number: u32,
     is_number: bool,
 }
@@ -70,7 +69,7 @@ pub struct Reading {
 fn no_word() -> Word {
     Word {
         letters: 0,
-        text: [0; WORD_BYTES],
+        text: [b' '; COLUMNS],
         number: 0,
         is_number: true,
     }
@@ -110,7 +109,7 @@ fn appended(number: u32, digit: u8) -> u32 {
 fn with_letter(word: Word, letter: u8) -> Word {
     let mut longer = word;
     let at = word.letters as usize;
-    if WORD_BYTES <= at {
+    if COLUMNS <= at {
         longer.is_number = false;
         return longer;
     }
@@ -128,47 +127,24 @@ fn named(other: u8, word: &[u8], name: &[u8], number: u8) -> u8 {
     if same(word, name) { number } else { other }
 }
 
-fn event_command(other: u8, word: &[u8]) -> u8 {
-    let n = named(other, word, b"NEW", command::NEW);
-    let n = named(n, word, b"POST", command::POST);
-    let n = named(n, word, b"POSTFRONT", command::POSTFRONT);
-    let n = named(n, word, b"PUBLISH", command::PUBLISH);
-    let n = named(n, word, b"SUBSCRIBE", command::SUBSCRIBE);
-    let n = named(n, word, b"UNSUBSCRIBE", command::UNSUBSCRIBE);
-    let n = named(n, word, b"HOLD", command::HOLD);
-    let n = named(n, word, b"RELEASE", command::RELEASE);
-    let n = named(n, word, b"DROP", command::DROP);
-    named(n, word, b"READ", command::READ)
-}
-
-// The commands of charts, of steps and of clocks.
-fn other_command(other: u8, word: &[u8]) -> u8 {
-    let n = named(other, word, b"LOAD", command::LOAD);
-    let n = named(n, word, b"START", command::START);
-    let n = named(n, word, b"NEXT", command::NEXT);
-    let n = named(n, word, b"END", command::END);
-    let n = named(n, word, b"DRAIN", command::DRAIN);
-    let n = named(n, word, b"ARM", command::ARM);
-    let n = named(n, word, b"DISARM", command::DISARM);
-    named(n, word, b"TICK", command::TICK)
-}
-
-// The commands of side queues.
-fn side_command(other: u8, word: &[u8]) -> u8 {
-    let n = named(other, word, b"DEFER", command::DEFER);
-    let n = named(n, word, b"RECALL", command::RECALL);
-    named(n, word, b"FLUSH", command::FLUSH)
-}
-
-// The number of a name, 0 if there is no such name.
-fn number_of(word: &[u8]) -> u8 {
-    let n = other_command(event_command(0, word), word);
-    let n = side_command(n, word);
-    let n = named(n, word, b"TOP", TOP);
+// The number of a name that is no command's, 0 if there is no such name.
+fn other_name(word: &[u8]) -> u8 {
+    let n = named(0, word, b"TOP", TOP);
     let n = named(n, word, b"STATE", STATE);
     let n = named(n, word, b"ROW", ROW);
     let n = named(n, word, b"PIECE", PIECE);
     named(n, word, b"FRESH", FRESH)
+}
+
+// The number of a name, 0 if there is no such name.
+fn number_of(word: Word) -> u8 {
+    let text = word.text;
+    let command = names::number_of(text);
+    if command != 0 {
+        return command;
+    }
+    let letters = io::count(word.letters as isize, &text);
+    other_name(&text[..letters])
 }
 
 fn wrong(record: Record) -> Record {
@@ -201,9 +177,7 @@ fn begin(word: Word) -> Record {
         }
         return begun(0, word.number as u8, COMMAND_RECORD);
     }
-    let text = word.text;
-    let letters = io::count(word.letters as isize, &text);
-    let name = number_of(&text[..letters]);
+    let name = number_of(word);
     match name {
         0 => wrong(no_record()),
         TOP => begun(name, 3, CHART_RECORD),

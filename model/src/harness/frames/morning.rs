@@ -17,7 +17,7 @@ pub fn lines(stream: &[u8]) -> String {
         lines.push(String::from("the end is torn off"));
     }
     let gaps = frames.iter().filter(|read| read.gap).count();
-    lines.push(format!("{} frames, {gaps} gaps", frames.len()));
+    lines.push(format!("frames: {}, gaps: {gaps}", frames.len()));
     lines.into_iter().map(|line| line + "\n").collect()
 }
 
@@ -34,8 +34,8 @@ fn told(frame: &Frame) -> String {
     let data = &frame.data;
     match data[..].try_into() {
         Ok(reply) => words(frame.record, reply),
-        Err(_) if data.is_empty() => String::from("no reply, 0 bytes"),
-        Err(_) => format!("no reply, {} bytes:{}", data.len(), spaced(data)),
+        Err(_) if data.is_empty() => String::from("no reply, no data"),
+        Err(_) => format!("no reply, data:{}", spaced(data)),
     }
 }
 
@@ -79,7 +79,7 @@ mod tests {
   1 START        DONE  object 9  transition  count 4  actions 10 11 13 21
   2 NEW          DONE  values 0 0  least free 31
   3 NEXT         IDLE
-4 frames, 0 gaps
+frames: 4, gaps: 0
 ";
         assert_eq!(lines(&night().concat()), expected);
     }
@@ -92,16 +92,16 @@ mod tests {
 something is missing here
   2 NEW          DONE  values 0 0  least free 31
 the end is torn off
-2 frames, 1 gaps
+frames: 2, gaps: 1
 ";
         assert_eq!(lines(&stream), expected);
     }
 
     #[test]
     fn nothing_at_all() {
-        assert_eq!(lines(&[]), "0 frames, 0 gaps\n");
-        assert_eq!(lines(&[END]), "0 frames, 0 gaps\n");
-        assert_eq!(lines(&[5]), "the end is torn off\n0 frames, 0 gaps\n");
+        assert_eq!(lines(&[]), "frames: 0, gaps: 0\n");
+        assert_eq!(lines(&[END]), "frames: 0, gaps: 0\n");
+        assert_eq!(lines(&[5]), "the end is torn off\nframes: 0, gaps: 0\n");
     }
 
     #[test]
@@ -114,13 +114,13 @@ the end is torn off
             sent(9, 21, &[0; 25]),
         ]
         .concat();
-        let expected = "254 UNSUBSCRIBE  no reply, 0 bytes
-255 command 0    no reply, 1 bytes: 7
-  0 command 22   no reply, 23 bytes: 1 1 1 1 1 1 1 1 1 1 1 1 1 1 1 1 1 1 1 1 1 1 1
+        let expected = "254 UNSUBSCRIBE  no reply, no data
+255 command 0    no reply, data: 7
+  0 command 22   no reply, data: 1 1 1 1 1 1 1 1 1 1 1 1 1 1 1 1 1 1 1 1 1 1 1
   1 command 255  FORM  object 1  ignored  signal 1  event 1 1  count 1  actions 1
 something is missing here
-  9 FLUSH        no reply, 25 bytes: 0 0 0 0 0 0 0 0 0 0 0 0 0 0 0 0 0 0 0 0 0 0 0 0 0
-5 frames, 1 gaps
+  9 FLUSH        no reply, data: 0 0 0 0 0 0 0 0 0 0 0 0 0 0 0 0 0 0 0 0 0 0 0 0 0
+frames: 5, gaps: 1
 ";
         assert_eq!(lines(&stream), expected);
     }
