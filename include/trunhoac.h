@@ -1,5 +1,6 @@
 /*
- * Trunhoac for a host in C: the event kernel, the chart check and the flattener.
+ * Trunhoac for a host in C: the event kernel, the chart check and the
+ * flattener, and frames for a trace that can still be read after damage.
  *
  * Every call is proved. For any bytes that it is handed it answers, never
  * traps, and writes what documents 01 and 02 say and nothing else. What the
@@ -10,11 +11,13 @@
  *   - no two things that one call is lent overlap, and nobody else writes to
  *     them during the call;
  *   - a kernel is first made by trunhoac_fresh, and after that only
- *     trunhoac_command writes to it.
+ *     trunhoac_command writes to it; a reader is first made by
+ *     trunhoac_reader_fresh, and after that only trunhoac_reader_feed does.
  *
- * Nothing is kept between calls but the kernel, and that has no pointer in it:
- * it may be copied, stored and moved, and there may be any number of them, each
- * with its own areas and each called whenever its host likes.
+ * Nothing is kept between calls but the kernel, the reader and the number of a
+ * writer, and these have no pointer in them: they may be copied, stored and
+ * moved, and there may be any number of them, each kernel with its own areas
+ * and each called whenever its host likes.
  */
 #ifndef TRUNHOAC_H
 #define TRUNHOAC_H
@@ -165,6 +168,70 @@ uint32_t chart_check(const uint8_t *chart, size_t chart_length);
 
 uint32_t chart_flatten(const uint8_t *chart, size_t chart_length,
                        uint8_t *slot, size_t slot_length);
+
+/*
+ * ---- Frames ----
+ *
+ * A frame is a number, a record number, data and a check byte, escaped, with
+ * 0x7E behind them. After damage of any kind every intact frame behind the next
+ * 0x7E is read again.
+ */
+
+enum {
+    TRUNHOAC_FRAME_DATA = 93,  /* the most bytes of data */
+    TRUNHOAC_FRAME_BYTES = 193 /* the longest frame as it is sent: an area of so many bytes has room for any */
+};
+
+/*
+ * Writes a frame at the front of an area, with a record number of the host's
+ * choice. Answers how many bytes it has, and the number is then that of the
+ * next: one higher, 0 after 255. A trace begins with the number 0.
+ *
+ * With more than 93 bytes of data, or too little room, it is refused: it
+ * answers 0, writes nothing, and the number stays.
+ */
+size_t trunhoac_frame_write(uint8_t *number, uint8_t kind,
+                            const uint8_t *data, size_t data_length,
+                            uint8_t *area, size_t area_length);
+
+/* The reader's memory, of this size. What it holds is the reader's own. */
+struct trunhoac_reader {
+    uint8_t memory[100];
+};
+
+/* What a reader tells of a frame; all of it is 0 where none was completed. */
+struct trunhoac_frame {
+    uint8_t complete; /* 1 for a frame */
+    uint8_t number;
+    uint8_t kind; /* its record number */
+    uint8_t gap;  /* 1 if the number does not follow that of the frame before it: something is missing */
+    uint8_t size; /* how many bytes of data it has */
+    uint8_t data[TRUNHOAC_FRAME_DATA];
+};
+
+/* Makes a reader that has read nothing, whatever the memory held. */
+void trunhoac_reader_fresh(struct trunhoac_reader *reader);
+
+/*
+ * Reads a piece of the input, which may be cut anywhere: up to and with the
+ * first byte that completes a frame, else all of it. `read` is then how many
+ * bytes that were, one at least where there is one, and the host feeds the rest:
+ *
+ *     while (length > 0) {
+ *         trunhoac_reader_feed(&reader, piece, length, &read, &frame);
+ *         if (frame.complete)
+ *             take(&frame);
+ *         piece += read;
+ *         length -= read;
+ *     }
+ *
+ * What is no frame is passed over in silence, and the next frame tells the gap;
+ * none is told at the first. A damaged frame whose check byte fits may pass.
+ * What stands behind the last 0x7E is no frame yet.
+ */
+void trunhoac_reader_feed(struct trunhoac_reader *reader,
+                          const uint8_t *piece, size_t piece_length,
+                          size_t *read, struct trunhoac_frame *frame);
 
 /* A handle: an event's block and its generation, which NEW answers and NEXT too where the event is no timer's. */
 struct trunhoac_handle {

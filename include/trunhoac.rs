@@ -1,4 +1,5 @@
-//! Trunhoac for a host in Rust: the event kernel, the chart check and the flattener, as safe calls.
+//! Trunhoac for a host in Rust: the event kernel, the chart check and the flattener, and frames for a trace that can
+//! still be read after damage, as safe calls.
 //!
 //! Take this file in by `#[path = "..."] mod trunhoac;` or copy it, and link the library. It uses `core` and
 //! `alloc` alone, and Rust 1.82 or later. Each command of documents 01 and 02 is a method of [`Kernel`]. The library
@@ -18,6 +19,10 @@ pub const MOST_PAYLOAD_BYTES: usize = 64;
 pub const SLOT_BYTES: usize = 16_152;
 /// The length of a reply.
 pub const REPLY_BYTES: usize = 24;
+/// The most bytes of data in a frame.
+pub const FRAME_DATA: usize = 93;
+/// The longest frame as it is sent: an area of so many bytes has room for any.
+pub const FRAME_BYTES: usize = 193;
 
 const HEAD_BYTES: usize = 8;
 const RECORD_BYTES: usize = HEAD_BYTES + MOST_PAYLOAD_BYTES;
@@ -25,6 +30,8 @@ const PAYLOAD_AREA: usize = 1_536;
 const TABLE_AREA: usize = 4 * SLOT_BYTES;
 const LOG_LINES: usize = 255;
 const MOST_ACTIONS: usize = 18;
+/// What is told of a frame: five bytes, and room for its data.
+const TOLD_BYTES: usize = 5 + FRAME_DATA;
 /// A timer's event is told by this number and the timer's own.
 const FIRST_TIMER: u8 = 128;
 
@@ -37,9 +44,16 @@ struct Memory {
 
 const _: () = assert!(size_of::<Memory>() == 1_832 && align_of::<Memory>() == 8);
 
+/// The reader's memory. What it holds is the reader's own.
+#[repr(C)]
+#[derive(Clone)]
+struct ReaderMemory {
+    bytes: [u8; 100],
+}
+
 /// The library's calls.
 mod library {
-    use super::{Memory, REPLY_BYTES};
+    use super::{Memory, ReaderMemory, REPLY_BYTES, TOLD_BYTES};
 
     unsafe extern "C" {
         pub fn trunhoac_fresh(kernel: &mut Memory);
@@ -73,6 +87,22 @@ mod library {
             slot: *mut u8,
             slot_length: usize,
         ) -> u32;
+        pub fn trunhoac_frame_write(
+            number: &mut u8,
+            kind: u8,
+            data: *const u8,
+            data_length: usize,
+            area: *mut u8,
+            area_length: usize,
+        ) -> usize;
+        pub fn trunhoac_reader_fresh(reader: &mut ReaderMemory);
+        pub fn trunhoac_reader_feed(
+            reader: &mut ReaderMemory,
+            piece: *const u8,
+            piece_length: usize,
+            read: &mut usize,
+            told: &mut [u8; TOLD_BYTES],
+        );
     }
 }
 
@@ -601,6 +631,79 @@ impl Kernel {
         match Refusal::in_reply(&reply) {
             Some(refusal) => Err(refusal),
             None => Ok(Reply(reply)),
+        }
+    }
+}
+
+/// A writer of frames. It keeps the number of the next.
+#[derive(Clone, Debug, Default, PartialEq, Eq)]
+pub struct Writer {
+    next: u8,
+}
+
+impl Writer {
+    /// A writer whose first frame has the number 0.
+    pub fn new() -> Writer {
+        Writer::default()
+    }
+
+    /// Writes a frame at the front of an area, and hands its bytes back; the kind is a record number of the host's
+    /// choice. With more than 93 bytes of data, or too little room, there is none, and nothing changed.
+    pub fn write<'a>(&mut self, kind: u8, data: &[u8], area: &'a mut [u8]) -> Option<&'a [u8]> {
+        let (to, room) = (area.as_mut_ptr(), area.len());
+        // SAFETY: pointers and lengths are those of two slices, and what is borrowed mutably overlaps nothing.
+        let length = unsafe {
+            library::trunhoac_frame_write(&mut self.next, kind, data.as_ptr(), data.len(), to, room)
+        };
+        area.get(..length).filter(|frame| !frame.is_empty())
+    }
+}
+
+/// A frame that was read. There is a gap if its number does not follow that of the frame before it: something is
+/// missing.
+#[derive(Clone, Copy, Debug, PartialEq, Eq)]
+pub struct Frame<'a> {
+    pub number: u8,
+    pub kind: u8,
+    pub gap: bool,
+    pub data: &'a [u8],
+}
+
+/// A reader of frames.
+#[derive(Clone)]
+pub struct Reader {
+    memory: ReaderMemory,
+}
+
+impl Reader {
+    /// A reader that has read nothing.
+    pub fn fresh() -> Reader {
+        let mut memory = ReaderMemory { bytes: [0; 100] };
+        // SAFETY: the memory has the size that the library asks for.
+        unsafe { library::trunhoac_reader_fresh(&mut memory) };
+        Reader { memory }
+    }
+
+    /// Reads a piece of the input, which may be cut anywhere, and hands out each frame that it completes, in order.
+    pub fn feed(&mut self, piece: &[u8], mut hand_out: impl FnMut(Frame<'_>)) {
+        let mut rest = piece;
+        while !rest.is_empty() {
+            let (mut read, mut told) = (0, [0; TOLD_BYTES]);
+            let (from, length) = (rest.as_ptr(), rest.len());
+            // SAFETY: the pointer and the length are those of one slice, and what is borrowed mutably overlaps nothing.
+            unsafe {
+                library::trunhoac_reader_feed(&mut self.memory, from, length, &mut read, &mut told);
+            }
+            rest = rest.get(read..).unwrap_or_default();
+            let [complete, number, kind, gap, size, data @ ..] = &told;
+            if *complete == 1 {
+                hand_out(Frame {
+                    number: *number,
+                    kind: *kind,
+                    gap: *gap == 1,
+                    data: data.get(..usize::from(*size)).unwrap_or_default(),
+                });
+            }
         }
     }
 }

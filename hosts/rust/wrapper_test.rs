@@ -1,8 +1,8 @@
 //! What the sample night does not reach of the wrapper. The values expected are those of documents 01 and 02.
 
 use trunhoac::Refusal::{self, *};
-use trunhoac::{chart_check, chart_flatten, DrainEnd, Event, Kernel, New, Outcome, Released};
-use trunhoac::{Step, Ticked, REPLY_BYTES, SLOT_BYTES};
+use trunhoac::{chart_check, chart_flatten, DrainEnd, Event, Frame, Kernel, New, Outcome, Reader};
+use trunhoac::{Released, Step, Ticked, Writer, FRAME_BYTES, FRAME_DATA, REPLY_BYTES, SLOT_BYTES};
 
 #[path = "../../include/trunhoac.rs"]
 #[allow(dead_code)] // the night uses the rest
@@ -282,4 +282,81 @@ fn kernels_stand_side_by_side() {
     assert_eq!(one.read(event), Err(Stale));
     assert_eq!(other.read(event), Ok(&[3][..]));
     assert_eq!(copy.read(event), Ok(&[1, 2][..]));
+}
+
+/// The bytes of frames one after the other, with these data and the kinds 1, 2, ..
+fn framed(writer: &mut Writer, data: &[&[u8]]) -> Vec<u8> {
+    let mut area = [0; FRAME_BYTES];
+    let frames = (1..).zip(data);
+    frames
+        .flat_map(|(kind, data)| writer.write(kind, data, &mut area).unwrap().to_vec())
+        .collect()
+}
+
+/// What is handed out of a frame.
+type Told = (u8, u8, bool, Vec<u8>);
+
+fn read(reader: &mut Reader, piece: &[u8]) -> Vec<Told> {
+    let mut all = Vec::new();
+    reader.feed(
+        piece,
+        |Frame {
+             number,
+             kind,
+             gap,
+             data,
+         }| all.push((number, kind, gap, data.to_vec())),
+    );
+    all
+}
+
+#[test]
+fn frames_are_written_as_the_book_has_them() {
+    let mut writer = Writer::new();
+    for _ in 0..0x7E {
+        framed(&mut writer, &[&[]]);
+    }
+    let mut area = [7; 12];
+    assert_eq!(writer.write(0x7D, &[0x7D, 8, 1], &mut area[..10]), None);
+    assert_eq!(
+        writer.write(0, &[0; FRAME_DATA + 1], &mut [0; 2 * FRAME_BYTES]),
+        None
+    );
+    assert_eq!(area, [7; 12]);
+    let frame = [0x7D, 0x5E, 0x7D, 0x5D, 0x7D, 0x5D, 8, 1, 0x7D, 0x5E, 0x7E];
+    assert_eq!(
+        writer.write(0x7D, &[0x7D, 8, 1], &mut area),
+        Some(&frame[..])
+    );
+    assert_eq!(area[11], 7);
+}
+
+#[test]
+fn frames_are_read_however_they_are_cut() {
+    let data: [&[u8]; 3] = [&[0x7E; FRAME_DATA], &[], &[5, 0x7D]];
+    let stream = framed(&mut Writer::new(), &data);
+    let told: Vec<Told> = (0..)
+        .zip(data)
+        .map(|(n, data)| (n, n + 1, false, data.to_vec()))
+        .collect();
+    for cut in 0..=stream.len() {
+        let mut reader = Reader::fresh();
+        let mut all = read(&mut reader, &stream[..cut]);
+        let mut copy = reader.clone();
+        all.extend(read(&mut copy, &stream[cut..]));
+        assert_eq!(all, told);
+    }
+}
+
+#[test]
+fn a_lost_frame_shows_as_a_gap() {
+    let mut writer = Writer::new();
+    let mut stream = framed(&mut writer, &[&[1], &[2], &[3], &[4]]);
+    stream[6] ^= 1; // in the second of four frames of five bytes
+    let told = read(&mut Reader::fresh(), &stream);
+    let numbers: Vec<(u8, bool)> = told
+        .iter()
+        .map(|(number, _, gap, _)| (*number, *gap))
+        .collect();
+    assert_eq!(numbers, [(0, false), (2, true), (3, false)]);
 }

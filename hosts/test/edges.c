@@ -21,6 +21,13 @@ static struct {
     size_t *place, *length;
 } lent;
 
+static struct {
+    uint8_t *number, *data, *area, *piece;
+    struct trunhoac_reader *reader;
+    struct trunhoac_frame *frame;
+    size_t *read;
+} framed;
+
 static bool is_lent;
 
 static void *lend(size_t length, enum side side)
@@ -48,6 +55,13 @@ static void lend_all(enum side side)
     lent.slot = lend(TRUNHOAC_SLOT_BYTES, side);
     lent.place = lend(sizeof *lent.place, side);
     lent.length = lend(sizeof *lent.length, side);
+    framed.number = lend(sizeof *framed.number, side);
+    framed.data = lend(TRUNHOAC_FRAME_DATA, side);
+    framed.area = lend(TRUNHOAC_FRAME_BYTES, side);
+    framed.piece = lend(TRUNHOAC_FRAME_BYTES, side);
+    framed.reader = lend(sizeof *framed.reader, side);
+    framed.frame = lend(sizeof *framed.frame, side);
+    framed.read = lend(sizeof *framed.read, side);
 }
 
 static void done(const uint8_t *filled)
@@ -124,6 +138,25 @@ static void use_edges(void)
     expect(lent.reply[TRUNHOAC_AT_VALUES] == UINT8_MAX, "the log is full");
 }
 
+/* The longest frame, which fills its area: 30 times 0x7E and 65 times 0x7D. Then a stretch that is no frame's. */
+static void use_frames(void)
+{
+    *framed.number = 0x7E;
+    memset(framed.data, 0x7E, TRUNHOAC_FRAME_DATA);
+    memset(framed.data, 0x7D, 65);
+    size_t length = trunhoac_frame_write(framed.number, 0x7E, framed.data, TRUNHOAC_FRAME_DATA,
+                                         framed.area, TRUNHOAC_FRAME_BYTES);
+    expect(length == TRUNHOAC_FRAME_BYTES, "the frame ends where its area does");
+    memcpy(framed.piece, framed.area, length);
+    trunhoac_reader_fresh(framed.reader);
+    trunhoac_reader_feed(framed.reader, framed.piece, length, framed.read, framed.frame);
+    expect(*framed.read == length && framed.frame->complete == 1, "the frame ends where its piece does");
+    expect(memcmp(framed.frame->data, framed.data, TRUNHOAC_FRAME_DATA) == 0, "all its data come back");
+    memset(framed.piece, 0, length);
+    trunhoac_reader_feed(framed.reader, framed.piece, length, framed.read, framed.frame);
+    expect(*framed.read == length && framed.frame->complete == 0, "a piece is read to its end");
+}
+
 static void test_side(enum side side)
 {
     lend_all(side);
@@ -135,6 +168,7 @@ static void test_side(enum side side)
     expect(chart_check(lent.chart, two_states.length) == 0, "the chart is good");
     expect(chart_flatten(lent.chart, two_states.length, lent.slot, TRUNHOAC_SLOT_BYTES) == 0, "and is flattened");
     expect(memcmp(lent.slot, lent.tables, TRUNHOAC_SLOT_BYTES) == 0, "as the kernel flattens it");
+    use_frames();
 }
 
 void test_edges(void)

@@ -1,11 +1,13 @@
 /*
- * The kernel's layout: the struct as crates/state and crates/pool declare it, held against the header and the library.
+ * Layouts: the kernel's struct as crates/state and crates/pool declare it, and the reader's as crates/frame does, held
+ * against the header and the library.
  *
  * Values are looked for at the first and at the last element of each array.
  */
 #include "test.h"
 
 enum { BLOCKS = 56, POOLS = 3, OBJECTS = 16, PLACES = 16, SIDES = 8, SIGNAL_PLACES = 32, SLOTS = 4, TIMERS = 16 };
+enum { UNESCAPED = 96 }; /* the most bytes of a frame, unescaped */
 
 struct pool {
     uint64_t free; /* the digit of each block that is free */
@@ -39,6 +41,22 @@ struct kernel {
 
 _Static_assert(sizeof(struct kernel) == sizeof(struct trunhoac_kernel), "the header gives the kernel its size");
 _Static_assert(_Alignof(struct kernel) == _Alignof(struct trunhoac_kernel), "and its alignment");
+
+struct reader {
+    uint8_t bytes[UNESCAPED];
+    uint8_t length;
+    uint8_t escaped;
+    uint8_t any; /* whether a frame was handed out, and the last one's number */
+    uint8_t last;
+};
+
+_Static_assert(sizeof(struct reader) == sizeof(struct trunhoac_reader), "the header gives the reader its size");
+_Static_assert(_Alignof(struct trunhoac_reader) == 1, "and no alignment");
+_Static_assert(sizeof(struct trunhoac_frame) == 5 + TRUNHOAC_FRAME_DATA, "a frame is told without gaps");
+_Static_assert(offsetof(struct trunhoac_frame, complete) == 0 && offsetof(struct trunhoac_frame, number) == 1
+                   && offsetof(struct trunhoac_frame, kind) == 2 && offsetof(struct trunhoac_frame, gap) == 3
+                   && offsetof(struct trunhoac_frame, size) == 4 && offsetof(struct trunhoac_frame, data) == 5,
+               "and in this order");
 
 static const struct trunhoac_handle first_block = {0, 0};
 static const struct trunhoac_handle second_block = {1, 0};
@@ -243,6 +261,39 @@ static void test_timers(void)
     expect(k.hand == LAST_ENTRY, "the timer in hand");
 }
 
+/* The reader as the library left it after a piece; a byte that a fresh start did not write would differ by the fill. */
+static struct reader reader_after(uint8_t fill, const uint8_t *piece, size_t length)
+{
+    struct reader r;
+    size_t read;
+    const struct trunhoac_reader *kept = lend_reader(fill);
+
+    if (length > 0)
+        feed(piece, length, &read);
+    memcpy(&r, kept, sizeof r);
+    return r;
+}
+
+static void test_reader(void)
+{
+    static const uint8_t frame[] = {9, 1, 245, 0x7E, 3, 4, 0x7D};
+    uint8_t longest[UNESCAPED];
+    struct reader r = reader_after(FILL, NULL, 0), other = reader_after(FILL / 2, NULL, 0);
+
+    expect(memcmp(&r, &other, sizeof r) == 0, "a fresh start writes every byte of the reader");
+    r = reader_after(FILL, frame, 3);
+    expect(r.bytes[0] == 9 && r.bytes[1] == 1 && r.bytes[2] == 245 && r.length == 3 && r.escaped == 0, "what has come");
+    expect(r.any == 0, "no frame was handed out");
+    r = reader_after(FILL, frame, 4);
+    expect(r.length == 0 && r.any == 1 && r.last == 9, "one was, and its number");
+    r = reader_after(FILL, frame + 4, 3);
+    expect(r.length == 2 && r.escaped == 1, "an escape");
+    for (uint8_t i = 0; i < sizeof longest; i++)
+        longest[i] = i + 1;
+    r = reader_after(FILL, longest, sizeof longest);
+    expect(r.bytes[0] == 1 && r.bytes[UNESCAPED - 1] == UNESCAPED && r.length == UNESCAPED, "the most that can come");
+}
+
 void test_layout(void)
 {
     now_at("layout", 0);
@@ -253,4 +304,5 @@ void test_layout(void)
     test_mail();
     test_side_queues();
     test_timers();
+    test_reader();
 }

@@ -5,7 +5,7 @@
  */
 #include "test.h"
 
-enum { GUARD_BYTES = 64, MOST_SHOWN = TRUNHOAC_REPLY_BYTES - TRUNHOAC_AT_ACTIONS };
+enum { MOST_SHOWN = TRUNHOAC_REPLY_BYTES - TRUNHOAC_AT_ACTIONS };
 
 /* Things of 8 bytes come first, and guards have a multiple of that: so no gap lies between a thing and its guards. */
 struct memory {

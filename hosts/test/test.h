@@ -24,11 +24,19 @@ struct chart {
     uint8_t bytes[TRUNHOAC_MOST_CHART_BYTES + 1]; /* so that a file that is too long is a chart that is too long */
 };
 
-enum { FILL = 170 };
+enum { FILL = 170, GUARD_BYTES = 64 };
 
 void lend_fresh(uint8_t fill);
 const uint8_t *command(const uint8_t *record, size_t length, const struct chart *chart);
 const struct trunhoac_kernel *lent_kernel(void);
+
+/* framed.c: the memory that the calls for frames are lent, between guards. */
+enum { MOST_FRAMED = 512, MOST_STREAM = 2048 }; /* of data and room, and of a stream */
+
+size_t write_frame(uint8_t *number, uint8_t kind, const uint8_t *data, size_t size, size_t room);
+const uint8_t *framed_area(void); /* the room that the last frame was written to */
+const struct trunhoac_reader *lend_reader(uint8_t fill);
+const struct trunhoac_frame *feed(const uint8_t *piece, size_t length, size_t *read);
 
 /* written.c: what a command that is done has to write to an area, and where a block stands. */
 size_t place_of(size_t block);
@@ -52,12 +60,14 @@ struct line {
 
 bool read_words(char *text, struct line *line);
 
-/* The tests. The first two answer how many replies they compared. */
+/* The tests. The first two answer how many replies they compared, the third how many cases. */
 unsigned long test_vectors(const char *folder);
 unsigned long test_doc_cases(const char *folder);
+unsigned long test_frame_cases(const char *folder);
 void test_layout(void);
 void test_areas(void);
 void test_edges(void);
 void test_records(void);
+void test_frames(void);
 
 #endif

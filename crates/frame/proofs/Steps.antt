@@ -1,5 +1,5 @@
 -- Laws of a reader's steps: one byte more, and the frame that its bytes are.
-use mathlib.Core.Bool.{Bool, true, false}
+use mathlib.Core.Bool.{Bool, true, false, cond}
 use mathlib.Core.List.{List, [], _∷_}
 use mathlib.Core.Path.{_≡_, refl, _∙_}
 use Prim.Native.Nat.{ℕ, _+_, _-_, _<_, _≤_}
@@ -10,9 +10,14 @@ use lib.Dec.{eqb}
 use lib.ListN.{length, getD, set, take, drop, length-set, length-take, length-drop}
 use lib.Seq.{take-suc-set, take-take, take-add, drop-at, getD-take, length-take-le}
 use Rattle.ground.specs.Bools.{and-left}
-use Rattle.frame.specs.Inside.{partOf, Stands, Finishes}
+use Rattle.frame.specs.Inside.{isYes, partOf, Stands, Finishes}
 use Rattle.frame.specs.Reading.{Last, number, state, plain, pushed, front, fits, gapAt, frame, ended, lastIn}
 use Rattle.frame.specs.Wire.{checkOf}
+
+-- what a byte says that was made of it
+pub said : (t : Bool) (b : ℕ) → b ≡ cond t 1 0 → isYes b ≡ t
+said true b e = rw e refl
+said false b e = rw e refl
 
 -- One byte more: it is full, or there is room.
 module _ (s : List ℕ) (n b : ℕ) (l : length s ≡ 96) where

@@ -1,5 +1,5 @@
 -- How a reader's fields stand for its state, and what its steps make of that. For this crate's proofs alone.
-use mathlib.Core.Bool.{Bool, false, cond}
+use mathlib.Core.Bool.{Bool, false, cond, not}
 use mathlib.Core.List.{List, []}
 use mathlib.Core.Path.{_≡_}
 use Prim.Native.Nat.{ℕ}
@@ -21,8 +21,12 @@ pub record Stands (bytes : List ℕ) (n : ℕ) (e : Bool) (p : Part) : Type 0 wh
 unfoldable pub lastOf : Bool → ℕ → Last
 lastOf any n = cond any (number n) none
 
+-- A byte that says yes or no.
+abbrev pub isYes : ℕ → Bool
+isYes b = not (eqb b 0)
+
 unfoldable pub stateOf : Reader → State
-stateOf r = state (partOf (r .length) (r .escaped) (r .bytes)) (lastOf (r .any) (r .last))
+stateOf r = state (partOf (r .length) (isYes (r .escaped)) (r .bytes)) (lastOf (isYes (r .any)) (r .last))
 
 -- The part after any byte.
 unfoldable pub nextPart : Part → ℕ → Part

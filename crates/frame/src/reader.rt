@@ -10,6 +10,7 @@ ghost use Rattle.frame.specs.Reading.{Feeds, fits, fresh, gapAt, pushed,
 ghost use Rattle.frame.specs.View.{Within, fedOf, framesOf, stateOf};
 ghost use Rattle.frame.specs.Wire.{mostBytes, mostData};
 use super::*;
+use ground::one;
 
 // The fewest bytes that a frame has unescaped: a number, a record number and the check byte.
 const LEAST_BYTES: usize = 3;
@@ -27,12 +28,13 @@ struct Part {
     escaped: bool,
 }
 
-// Between two frames `bytes` still holds the last one.
+// Between two frames `bytes` still holds the last one. What is yes or no is a byte, 0 for no, so that any memory is a reader.
+#[repr(C)]
 pub struct Reader {
     pub bytes: [u8; MOST_BYTES],
     length: u8,
-    escaped: bool,
-    any: bool,
+    escaped: u8,
+    any: u8,
     last: u8,
 }
 
@@ -55,8 +57,8 @@ pub fn new_reader() -> Reader
     Reader {
         bytes: [0u8; MOST_BYTES],
         length: 0,
-        escaped: false,
-        any: false,
+        escaped: 0,
+        any: 0,
         last: 0,
     }
 }
@@ -164,8 +166,8 @@ fn hand_out(bytes: [u8; MOST_BYTES], n: u8, any: bool, last: u8, read: usize) ->
     let reader = Reader {
         bytes,
         length: 0,
-        escaped: false,
-        any: true,
+        escaped: 0,
+        any: 1,
         last: number,
     };
     Fed {
@@ -199,15 +201,13 @@ pub fn feed(r: Reader, piece: &[u8]) -> Fed
     ensures { λ f. ⌜ Feeds (stateOf r) (now (piece .entry)) (f .read) (framesOf f) (stateOf (f .reader)) ⌝ }
     ensures { λ f. ⌜ Within (now (piece .entry)) f ⌝ }
 {
-    let any = r.any;
-    let last = r.last;
     let mut bytes = r.bytes;
     let mut n = r.length;
-    let mut escaped = r.escaped;
+    let mut escaped = r.escaped != 0;
     let mut i = 0;
     while i < piece.len() {
         if completes(&bytes, n, escaped, piece[i]) {
-            return hand_out(bytes, n, any, last, i + 1);
+            return hand_out(bytes, n, r.any != 0, r.last, i + 1);
         }
         let part = next_part(&mut bytes, n, escaped, piece[i]);
         n = part.length;
@@ -217,9 +217,9 @@ pub fn feed(r: Reader, piece: &[u8]) -> Fed
     let reader = Reader {
         bytes,
         length: n,
-        escaped,
-        any,
-        last,
+        escaped: one(escaped),
+        any: r.any,
+        last: r.last,
     };
     hold_on(reader, i)
 }

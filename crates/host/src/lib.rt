@@ -1,6 +1,8 @@
 // The kernel for a host in C or Rust, which keeps the struct and the areas as plain memory.
 //
 // The walk of a reference to a struct is proved by hand, so each exported function is one line over a function that takes the struct itself.
+pub mod frames;
+
 ghost use mathlib.Core.Path.{_≡_};
 ghost use Rattle.chart.specs.Chart.{classOf};
 ghost use Rattle.chart.specs.Flat.{flattened};

@@ -38,10 +38,11 @@ use denote.Triple.Spec.{tripleOf}
 use denote.Triple.Walked.{says, needs, Stays, stay-ref, stay-dropped, gave-slice, gave-ref, walkOf, AllGo, goes-ref, goes-dropped, goes-gave-slice, goes-gave-ref, Walks, ends-at, walked}
 use denote.Exit.{yes}
 use Rattle.machine.specs.Machine.{answerTo}
+use Rattle.state.proofs.Kernel.{the-row as struct}
 use Rattle.state.specs.View.{Good, areas, stateOf}
 use Rattle.state.specs.declared.Kernel.{Kernel}
 use Rattle.host.specs.Told.{told}
-use Rattle.host.proofs.Walk.{at-local, in-order, struct, value, typed, gone, held, handed, opened, met}
+use Rattle.host.proofs.Walk.{at-local, in-order, kernel, value, typed, gone, held, handed-with, opened, met}
 use Rattle.host.proofs.answer as callee
 use Rattle.host.proofs.answer.Symbol as callee-def
 use Rattle.host.proofs.answer.Symbol.{name as #callee}
@@ -137,7 +138,7 @@ module _ {M : Type 1} (𝓤 : URA M) (H : Heap 𝓤) (A : Atoms 𝓤) (W : Given
 
   -- what the callee's triple binds outside: the borrows' own lifetimes, shares and names
   abbrev to-callee : Callee 𝓤 H A at-mem run .Ghost
-  to-callee = ((κs, qs, tt, (h, xs), (value h, vals)), tt)
+  to-callee = ((κs, qs, tt, (h, xs), (value kernel h, vals)), tt)
 
   abbrev Ensured : Kernel → Lasts callee.ended κs (h, xs) → Type 0
   Ensured r ws = Good r × (told r (ws .1 .1 .1 .1 .1 .1 .0) (areas (ws .1 .1 .1 .0) (ws .1 .1 .1 .1 .0) (ws .1 .1 .1 .1 .1 .0)) ≡ answerTo (stateOf h) (x₁ .now) (x₂ .now) (areas (x₃ .now) (x₄ .now) (x₅ .now)))
@@ -183,9 +184,9 @@ module _ {M : Type 1} (𝓤 : URA M) (H : Heap 𝓤) (A : Atoms 𝓤) (W : Given
         pass1 ! (init ! (p 0 5) refl (tt, (tt, (record { fits = g₄ .0 .1 .0 }, tt)))) $
         pass1 ! (init ! (p 0 6) refl (tt, (tt, (record { fits = g₅ .0 .1 .0 }, tt)))) $
         pass1 ! (init ! (p 0 7) refl (tt, tt)) $ pass0 ! $
-        move ! (34 ∷ 35 ∷ 36 ∷ []) $ opened ! tt h b o (λ was.
+        move ! (34 ∷ 35 ∷ 36 ∷ []) $ opened kernel ! tt h b o (λ was.
         -- [the struct's cell; what it owns; the open borrow; obs; auth; _16; …; room for _0; …; what the six others own; their tokens]
-        assigns ! (of-opd ! (load ! (from ! (hop ! (look ! (p 5 1) refl) (stop !))) (look-raw ! 0 refl))) (from ! (stop !)) (init ! (p 5 9) refl (typed 𝓤 H A W h _ was .0)) $
+        assigns ! (of-opd ! (load ! (from ! (hop ! (look ! (p 5 1) refl) (stop !))) (look-raw ! 0 refl))) (from ! (stop !)) (init ! (p 5 9) refl (typed kernel 𝓤 H A W h _ was .0)) $
         assigns ! (addr ! (from ! (fld ! refl (hop ! (look-in ! (p 5 4) (sub ! 0 refl (whole !))) (stop !))))) (from ! (stop !)) (init ! (p 5 10) refl (tt, tt)) $
         assigns ! (agg ! (and-then ! (held ! (p 5 10) refl) (and-then ! (load ! (from ! (fld ! refl (stop !))) (look-in ! (p 5 4) (sub ! 1 refl (whole !)))) (no-more !)))) (from ! (stop !))
         (init ! (p 5 11) refl (tt, (tt, (record { fits = g₃ .0 .1 .0 }, tt)))) $
@@ -196,7 +197,7 @@ module _ {M : Type 1} (𝓤 : URA M) (H : Heap 𝓤) (A : Atoms 𝓤) (W : Given
         assigns ! (agg ! (and-then ! (held ! (p 5 14) refl) (and-then ! (load ! (from ! (fld ! refl (stop !))) (look-in ! (p 5 6) (sub ! 1 refl (whole !)))) (no-more !)))) (from ! (stop !))
         (init ! (p 5 15) refl (tt, (tt, (record { fits = g₅ .0 .1 .0 }, tt)))) $
         assigns ! (addr ! (from ! (hop ! (look ! (p 5 7) refl) (stop !)))) (from ! (stop !)) (init ! (p 5 16) refl (tt, tt)) $
-        move ! (40 ∷ 1 ∷ 39 ∷ []) $ use3 W (raw (Callee 𝓤 H A at-mem run .pre to-callee)) (handed 𝓤 H A W Alive (struct .own h (value h)) Rest good) $
+        move ! (40 ∷ 1 ∷ 39 ∷ []) $ use3 W (raw (Callee 𝓤 H A at-mem run .pre to-callee)) (handed-with 𝓤 H A W Alive (struct .own h (value kernel h)) Rest good) $
         calls-at ! fm (Callee 𝓤 H A at-mem run) known to-callee
         (and-then ! (held ! (p 5 9) refl) (and-then ! (held ! (p 5 2) refl) (and-then ! (held ! (p 5 3) refl) (and-then ! (held ! (p 5 11) refl) (and-then ! (held ! (p 5 13) refl) (and-then ! (held ! (p 5 15) refl) (and-then ! (held ! (p 5 16) refl) (no-more !)))))))) (λ v.
         use1 W (later (some (λ (r : Kernel). (raw Alive ⊛ ‵ (struct .own r (v ∷ []))) ⊛ raw (ensured 𝓤 H A callee.ended (callee.clauses 𝓤 H A at-mem run) κs (h, xs) tt r)))) (id⊢ 𝓤 _) $
@@ -209,8 +210,8 @@ module _ {M : Type 1} (𝓤 : URA M) (H : Heap 𝓤) (A : Atoms 𝓤) (W : Given
         fsplit ! $ fsplit ! $ move ! (1 ∷ []) $ feqL ! (λ n₅. move ! (1 ∷ []) $
         move ! (4 ∷ []) $ split ! $ move ! (1 ∷ []) $ peeks ! struct (Is struct) (shows 𝓤 H A struct) r (v ∷ []) (λ is.
         -- [what the result owns; the six tokens; the last values of the reply, the log, the tables, the payloads; the struct's cell; the open borrow; obs; auth; _16; …; room for _0; …]
-        land ! (from ! (stop !)) (init ! (p 10 8) refl (typed 𝓤 H A W r _ is .0)) $
-        assigns ! (of-opd ! (held ! (p 10 8) refl)) (from ! (hop ! (look ! (p 10 1) refl) (stop !))) (store-raw ! 6 refl (typed 𝓤 H A W r _ is .0)) $
+        land ! (from ! (stop !)) (init ! (p 10 8) refl (typed kernel 𝓤 H A W r _ is .0)) $
+        assigns ! (of-opd ! (held ! (p 10 8) refl)) (from ! (hop ! (look ! (p 10 1) refl) (stop !))) (store-raw ! 6 refl (typed kernel 𝓤 H A W r _ is .0)) $
         assigns ! (of-opd ! (unit-lit !)) (from ! (stop !)) (init ! (p 10 0) refl (tt, tt)) $
         move ! (6 ∷ 0 ∷ 7 ∷ 8 ∷ 9 ∷ []) $ closes ! tt struct r (v ∷ []) b o $
         returns ! (look ! (p 8 0) refl) $ move ! (in-order 17 8) $

@@ -33,10 +33,11 @@ use denote.Triple.Entry.{alive, onEntry}
 use denote.Triple.Spec.{tripleOf}
 use denote.Triple.Walked.{says, needs, Stays, stay-dropped, gave-ref, walkOf, AllGo, goes-dropped, goes-gave-ref, Walks, ends-at, walked}
 use denote.Exit.{yes}
+use Rattle.state.proofs.Kernel.{the-row as struct}
 use Rattle.state.specs.View.{Good, stateOf}
 use Rattle.state.specs.declared.Kernel.{Kernel}
 use Rattle.host.specs.Told.{Found}
-use Rattle.host.proofs.Walk.{at-local, in-order, struct, value, typed, gone, held, handed, looked, shut-copied, met}
+use Rattle.host.proofs.Walk.{at-local, in-order, kernel, value, typed, gone, held, handed-with, looked, shut-copied, met}
 use Rattle.host.proofs.find_part as callee
 use Rattle.host.proofs.find_part.Symbol as callee-def
 use Rattle.host.proofs.find_part.Symbol.{name as #callee}
@@ -115,7 +116,7 @@ module _ {M : Type 1} (𝓤 : URA M) (H : Heap 𝓤) (A : Atoms 𝓤) (W : Given
 
   -- what the callee's triple binds outside: the borrows' own lifetimes, shares and names
   abbrev to-callee : Callee 𝓤 H A at-mem run .Ghost
-  to-callee = ((κs, qs, tt, (h, xs), (value h, vals)), tt)
+  to-callee = ((κs, qs, tt, (h, xs), (value kernel h, vals)), tt)
 
   abbrev Ensured : Lasts callee.ended κs (h, xs) → Type 0
   Ensured ws = Found (stateOf h) (x₁ .now) (x₂ .now) (ws .1 .1 .1 .0) (ws .1 .1 .1 .1 .0)
@@ -144,14 +145,14 @@ module _ {M : Type 1} (𝓤 : URA M) (H : Heap 𝓤) (A : Atoms 𝓤) (W : Given
         pass1 ! (init ! (p 0 3) refl (tt, (tt, (record { fits = g₂ .0 .1 .0 }, tt)))) $
         pass1 ! (init ! (p 0 4) refl (tt, tt)) $
         pass1 ! (init ! (p 0 5) refl (tt, tt)) $ pass0 ! $
-        move ! (20 ∷ 21 ∷ []) $ looked ! tt h b o (λ q′ was.
+        move ! (20 ∷ 21 ∷ []) $ looked kernel ! tt h b o (λ q′ was.
         -- [a share of the struct's cell; what it owns; what shuts it; the borrow; _9; …; room for _0; …; what the four others own; their tokens]
-        assigns ! (of-opd ! (load ! (from ! (hop ! (look ! (p 4 1) refl) (stop !))) (look-raw ! 0 refl))) (from ! (stop !)) (init ! (p 4 7) refl (typed 𝓤 H A W h _ was .0)) $
-        shut-copied ! tt q′ h b o $
+        assigns ! (of-opd ! (load ! (from ! (hop ! (look ! (p 4 1) refl) (stop !))) (look-raw ! 0 refl))) (from ! (stop !)) (init ! (p 4 7) refl (typed kernel 𝓤 H A W h _ was .0)) $
+        shut-copied kernel ! tt q′ h b o $
         -- [the token; what the copy owns; the borrow; _9; …; room for _0; …; what the four others own; their tokens]
         assigns ! (addr ! (from ! (hop ! (look ! (p 3 4) refl) (stop !)))) (from ! (stop !)) (init ! (p 3 8) refl (tt, tt)) $
         assigns ! (addr ! (from ! (hop ! (look ! (p 3 5) refl) (stop !)))) (from ! (stop !)) (init ! (p 3 9) refl (tt, tt)) $
-        move ! (24 ∷ 1 ∷ 23 ∷ []) $ use3 W (raw (Callee 𝓤 H A at-mem run .pre to-callee)) (handed 𝓤 H A W Alive (struct .own h (value h)) Rest good) $
+        move ! (24 ∷ 1 ∷ 23 ∷ []) $ use3 W (raw (Callee 𝓤 H A at-mem run .pre to-callee)) (handed-with 𝓤 H A W Alive (struct .own h (value kernel h)) Rest good) $
         calls-at ! fm (Callee 𝓤 H A at-mem run) known to-callee
         (and-then ! (held ! (p 3 7) refl) (and-then ! (held ! (p 3 2) refl) (and-then ! (held ! (p 3 3) refl) (and-then ! (held ! (p 3 8) refl) (and-then ! (held ! (p 3 9) refl) (no-more !)))))) (λ v.
         use1 W (later (some (λ (r : Unit {0}). (raw Alive ⊛ ‵ (unit .own r (v ∷ []))) ⊛ raw (ensured 𝓤 H A callee.ended (callee.clauses 𝓤 H A at-mem run) κs (h, xs) tt r)))) (id⊢ 𝓤 _) $
