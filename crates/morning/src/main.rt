@@ -2,12 +2,11 @@
 // command, and the reply in words as `replies` has it.
 //      12 NEXT         DONE  object 9  transition  signal 6  event 0 0  count 4  actions 26 22 31 41
 //     something is missing here                  before a frame that does not follow the last one
-//      16 command 22   no reply, 2 bytes: 7 8    where no command has the record number, or the data are no reply
+//      16 command 22   no reply, data: 7 8       where no command has the record number, or the data are no reply
 //     the end is torn off                        where the input does not end with a frame's end
-//     2 frames, 1 gaps                           last
+//     frames: 2, gaps: 1                         last
 ghost use Prim.Native.Nat.{_<_, _≤_};
 ghost use lib.ListN.{length};
-ghost use Rattle.frame.specs.Wire.{mostData};
 ghost use Rattle.frame.specs.Wire.{mostData};
 use frame::FLAG;
 use frame::MOST_BYTES;

@@ -135,7 +135,8 @@ fn write_out(bytes: &[u8]) -> bool {
     false
 }
 
-// Writes a reply as a frame. The record number is the command's, since a reply does not say which command it answers.
+// Writes a reply as a frame, which is never refused: there is room for the longest. The record number is the command's, since a reply
+// does not say which command it answers.
 fn write_frame(number: u8, command: u8, reply: [u8; REPLY_BYTES]) -> Sent {
     let mut bytes = [0u8; frame::LONGEST];
     let written = frame::writer::write(number, command, &reply, &mut bytes);
