@@ -22,6 +22,7 @@ pub record State : Type 0 where
   pub part : Part
   pub last : Last
 
+-- Its number, its record number, its data, and whether something is missing before it.
 pub record Frame : Type 0 where
   pub number : ℕ
   pub kind : ℕ
