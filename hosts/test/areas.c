@@ -13,11 +13,6 @@ static size_t changed(size_t length, int change)
     return change == EMPTY ? 0 : change == SHORTER ? length - 1 : length + 1;
 }
 
-static uint8_t *start_of(uint8_t *area, size_t length)
-{
-    return length == 0 ? NULL : area;
-}
-
 static bool still_filled(const uint8_t *area, size_t length)
 {
     while (length > 0 && area[length - 1] == FILL)

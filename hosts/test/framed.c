@@ -37,12 +37,6 @@ static void expect_as_due(const char *what)
     expect(memcmp(&due, &lent, sizeof lent) == 0, what);
 }
 
-/* A thing of no bytes is lent as NULL. */
-static uint8_t *start_of(uint8_t *bytes, size_t length)
-{
-    return length == 0 ? NULL : bytes;
-}
-
 const uint8_t *framed_area(void)
 {
     return lent.area;

@@ -26,6 +26,12 @@ struct chart {
 
 enum { FILL = 170, GUARD_BYTES = 64 };
 
+/* A thing of no bytes is lent as NULL. */
+static inline uint8_t *start_of(uint8_t *bytes, size_t length)
+{
+    return length == 0 ? NULL : bytes;
+}
+
 void lend_fresh(uint8_t fill);
 const uint8_t *command(const uint8_t *record, size_t length, const struct chart *chart);
 const struct trunhoac_kernel *lent_kernel(void);

@@ -43,9 +43,11 @@ resumed = RoundTrip.resume
 pub onlyIntact : Demands.OnlyIntact
 onlyIntact = Intact.only-intact
 
+-- Data that are always too long: those of `book` are not.
 pub longest : Demands.Longest
 longest = Sending.frame-most
 
+-- No hypothesis.
 pub book : Demands.Book
 unfolding frameBytes unescaped sentAll sent checkOf sum
 book = refl

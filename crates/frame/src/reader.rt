@@ -19,7 +19,7 @@ const LEAST_BYTES: usize = 3;
 pub const DATA: usize = 2;
 
 // A length that is no frame's any more.
-const SPOILT: u8 = 97;
+const SPOILT: u8 = MOST_BYTES as u8 + 1;
 
 // What has come since the last FLAG: the first `length` of a reader's bytes, and whether ESCAPE came behind them. With a length above
 // MOST_BYTES it can be no frame any more.

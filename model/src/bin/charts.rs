@@ -1,5 +1,6 @@
 //! Writes the charts that test the check and the flattener, and what the model makes of them.
 
+use model::harness::program::run;
 use model::harness::{bytes_of, cases, names, report};
 use std::io::{self, BufWriter, Write};
 use std::process::ExitCode;
@@ -18,22 +19,7 @@ enum Request {
 }
 
 fn main() -> ExitCode {
-    let words: Vec<String> = std::env::args().skip(1).collect();
-    let words: Vec<&str> = words.iter().map(String::as_str).collect();
-    let request = match read_request(&words) {
-        Ok(request) => request,
-        Err(complaint) => {
-            eprintln!("{complaint}");
-            return ExitCode::from(2);
-        }
-    };
-    match answer(&request) {
-        Ok(()) => ExitCode::SUCCESS,
-        Err(error) => {
-            eprintln!("charts: {error}");
-            ExitCode::FAILURE
-        }
-    }
+    run("charts", read_request, answer)
 }
 
 fn read_request(words: &[&str]) -> Result<Request, String> {

@@ -2,6 +2,7 @@
 
 use model::harness::files::{read_charts, write_run};
 use model::harness::frames::{damage, morning, record, Cases};
+use model::harness::program::run;
 use std::fs;
 use std::io::{self, BufWriter, Read, Write};
 use std::path::{Path, PathBuf};
@@ -29,19 +30,8 @@ enum Request {
 }
 
 fn main() -> ExitCode {
-    let words: Vec<String> = std::env::args().skip(1).collect();
-    let words: Vec<&str> = words.iter().map(String::as_str).collect();
-    let Some(request) = read_request(&words) else {
-        eprintln!("{USAGE}");
-        return ExitCode::from(2);
-    };
-    match answer(&request) {
-        Ok(()) => ExitCode::SUCCESS,
-        Err(error) => {
-            eprintln!("frames: {error}");
-            ExitCode::FAILURE
-        }
-    }
+    let read = |words: &[&str]| read_request(words).ok_or(String::from(USAGE));
+    run("frames", read, answer)
 }
 
 fn read_request(words: &[&str]) -> Option<Request> {

@@ -1,6 +1,7 @@
 //! Writes random traces, and what the model answers to them.
 
 use model::harness::files::{read_charts, write_charts, write_run};
+use model::harness::program::run;
 use model::harness::traces::areas::Calls;
 use model::harness::traces::coverage::Coverage;
 use model::harness::traces::{show, Trace};
@@ -43,19 +44,8 @@ enum Request {
 }
 
 fn main() -> ExitCode {
-    let words: Vec<String> = std::env::args().skip(1).collect();
-    let words: Vec<&str> = words.iter().map(String::as_str).collect();
-    let Some(request) = read_request(&words) else {
-        eprintln!("{USAGE}");
-        return ExitCode::from(2);
-    };
-    match answer(&request) {
-        Ok(()) => ExitCode::SUCCESS,
-        Err(error) => {
-            eprintln!("traces: {error}");
-            ExitCode::FAILURE
-        }
-    }
+    let read = |words: &[&str]| read_request(words).ok_or(String::from(USAGE));
+    run("traces", read, answer)
 }
 
 fn read_request(words: &[&str]) -> Option<Request> {

@@ -6,6 +6,7 @@ pub mod cases;
 pub mod files;
 pub mod frames;
 pub mod good;
+pub mod program;
 pub mod random;
 pub mod report;
 #[cfg(test)]
