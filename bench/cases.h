@@ -14,8 +14,6 @@ enum call {
     CHECK
 };
 
-enum which_chart { NO_CHART, SHIFT_CHART, LARGEST_CHART, CHARTS };
-
 struct part {
     size_t place;
     size_t length;

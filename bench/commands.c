@@ -3,26 +3,16 @@
  *
  * A batch of kernels in the same state gets the same command, each kernel once.
  * Only that is timed; the batch is filled before and its answers are compared
- * after. Every round times every case, so that a slow moment hits all of them.
+ * after.
  */
 #include "cases.h"
+#include "fail.h"
+#include "machine.h"
 #include "timing.h"
-
-#include <stdio.h>
-#include <stdlib.h>
-#include <sys/utsname.h>
-
-#ifdef __clang__
-#define COMPILER __VERSION__
-#else
-#define COMPILER "gcc " __VERSION__
-#endif
 
 enum {
     BATCH = 64,
     ROUNDS = 1001,
-    STACK_STEP = 16,
-    STACK_PLACES = 4096 / STACK_STEP,
     MOST_CASES = 64,
     /* No whole answer has this in each byte: one that has it was not written. */
     FILL = 170
@@ -98,12 +88,6 @@ static const struct {
     [CHECK] = {check_chart, sizeof(uint32_t)},
 };
 
-static void fail(const char *what, const char *which)
-{
-    fprintf(stderr, "%s: %s\n", which, what);
-    exit(EXIT_FAILURE);
-}
-
 static void fill_batch(const struct state *state)
 {
     areas = state->areas;
@@ -119,12 +103,9 @@ static void expect_answers(const struct bench_case *timed)
             fail("not the answer of the documents", timed->name);
 }
 
-/* The time of one call, as the mean of a batch; the calls' own stack begins so many bytes lower. */
-static double time_batch(size_t c, size_t lower)
+/* The time of one call, as the mean of a batch. */
+static double time_batch(size_t c)
 {
-    uint8_t passed_over[lower];
-
-    taken_as_used(passed_over);
     fill_batch(&states[c]);
     double start = processor_time();
     for (size_t i = 0; i < BATCH; i++)
@@ -132,29 +113,6 @@ static double time_batch(size_t c, size_t lower)
     double end = processor_time();
     expect_answers(&cases[c]);
     return (end - start) / BATCH;
-}
-
-/* The place of the stack within a page changes what some commands take, so the rounds go through its places. */
-static void time_all(void)
-{
-    for (size_t round = 0; round < ROUNDS; round++)
-        for (size_t c = 0; c < case_count; c++) {
-            size_t lower = STACK_STEP * (1 + round % STACK_PLACES);
-
-            /* The first batch after another case is slower, and by how much depends on that case. */
-            time_batch(c, lower);
-            times[c][round] = time_batch(c, lower);
-        }
-}
-
-static void read_chart(struct chart *chart, const char *path)
-{
-    FILE *file = fopen(path, "rb");
-
-    if (file == NULL)
-        fail("cannot be read", path);
-    chart->length = fread(chart->bytes, 1, sizeof chart->bytes, file);
-    fclose(file);
 }
 
 static void prepare_all(void)
@@ -165,34 +123,10 @@ static void prepare_all(void)
     }
 }
 
-/* The processor's name where the system tells it, otherwise its kind. */
-static void print_processor(void)
-{
-    char line[256];
-    char name[256] = "unknown processor";
-    struct utsname system;
-    FILE *file = fopen("/proc/cpuinfo", "r");
-    int found = 0;
-
-    while (file != NULL && !found && fgets(line, sizeof line, file) != NULL)
-        found = sscanf(line, "model name : %255[^\n]", name) == 1;
-    if (file != NULL)
-        fclose(file);
-    if (!found && uname(&system) == 0)
-        snprintf(name, sizeof name, "%s", system.machine);
-    printf("%s", name);
-}
-
 static void print_row(const char *name, const char *part, struct spread ns, double copy, int share)
 {
     printf("| %s%s | %.1f | %.2f | %.1f to %.1f |\n", name, part,
            ns.median / share, ns.median / share / copy, ns.lower / share, ns.upper / share);
-}
-
-static struct spread without(struct spread ns, double harness)
-{
-    struct spread rest = {ns.lower - harness, ns.median - harness, ns.upper - harness};
-    return rest;
 }
 
 static void print_table(void)
@@ -212,19 +146,13 @@ static void print_table(void)
 
 int main(int count, char **arguments)
 {
-    if (count != 3 || case_count > MOST_CASES) {
-        fputs("usage: commands SHIFT_CHART LARGEST_CHART\n", stderr);
-        return EXIT_FAILURE;
-    }
-    read_chart(&charts[SHIFT_CHART], arguments[1]);
-    read_chart(&charts[LARGEST_CHART], arguments[2]);
-    if (charts[LARGEST_CHART].length != TRUNHOAC_MOST_CHART_BYTES)
-        fail("not the length of a largest chart", arguments[2]);
-
+    if (case_count > MOST_CASES)
+        fail("too many cases", arguments[0]);
+    read_charts(charts, count, arguments);
     prepare_all();
-    time_all();
-    print_processor();
-    printf("; %s; %d rounds of %d kernels\n\n", COMPILER, ROUNDS, BATCH);
+    time_in_rounds(time_batch, case_count, ROUNDS, times);
+    print_machine();
+    printf("; %d rounds of %d kernels\n\n", ROUNDS, BATCH);
     print_table();
     return EXIT_SUCCESS;
 }

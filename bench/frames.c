@@ -2,22 +2,19 @@
  * Times frames: writing them, and reading streams of them in pieces.
  *
  * Each frame is told to a place of its own, and all of them are compared after
- * the timing. Every round times every case, so that a slow moment hits all.
+ * the timing.
  */
 #include "../include/trunhoac.h"
+#include "fail.h"
 #include "timing.h"
 
 #include <stdbool.h>
-#include <stdio.h>
-#include <stdlib.h>
 
 enum {
     FRAMES = 1000,
     ROUNDS = 1001,
     DATA = TRUNHOAC_REPLY_BYTES,
     MOST_SENT = 2 * (DATA + 3) + 1, /* of a frame: every byte escaped, and 0x7E */
-    STACK_STEP = 16,
-    STACK_PLACES = 4096 / STACK_STEP,
     /* No frame is told with this in each byte: one that has it was not written. */
     FILL = 170
 };
@@ -33,12 +30,6 @@ static struct stream replies, escapes, noise;
 static struct stream written;
 static struct trunhoac_frame told[FRAMES + 1]; /* what completes no frame is told behind the last one */
 static size_t told_count;
-
-static void fail(const char *what, const char *which)
-{
-    fprintf(stderr, "%s: %s\n", which, what);
-    exit(EXIT_FAILURE);
-}
 
 static void do_copy(const struct stream *stream, size_t piece)
 {
@@ -113,12 +104,10 @@ enum { CASES = sizeof cases / sizeof cases[0] };
 
 static double times[CASES][ROUNDS];
 
-/* The time of one case; the calls' own stack begins so many bytes lower. */
-static double time_case(const struct bench_case *timed, size_t lower)
+static double time_case(size_t c)
 {
-    uint8_t passed_over[lower];
+    const struct bench_case *timed = &cases[c];
 
-    taken_as_used(passed_over);
     memset(&written, FILL, sizeof written);
     memset(told, FILL, sizeof told);
     double start = processor_time();
@@ -127,18 +116,6 @@ static double time_case(const struct bench_case *timed, size_t lower)
     if (!timed->is_done(timed->stream))
         fail("not what was written", timed->name);
     return end - start;
-}
-
-static void time_all(void)
-{
-    for (size_t round = 0; round < ROUNDS; round++)
-        for (size_t c = 0; c < CASES; c++) {
-            size_t lower = STACK_STEP * (1 + round % STACK_PLACES);
-
-            /* The first after another case is slower. */
-            time_case(&cases[c], lower);
-            times[c][round] = time_case(&cases[c], lower);
-        }
 }
 
 /* Bytes that repeat after a long time, the same in every run. */
@@ -185,7 +162,7 @@ static void print_row(const struct bench_case *timed, struct spread ns)
 int main(void)
 {
     prepare_all();
-    time_all();
+    time_in_rounds(time_case, CASES, ROUNDS, times);
     printf("%d rounds of %d frames with %d bytes of data: %zu bytes, and %zu where all data are 0x7E\n\n",
            ROUNDS, FRAMES, DATA, replies.length, escapes.length);
     puts("| Frames | ns a byte | ns a frame | Quartiles, ns a byte |\n|---|---:|---:|---:|");

@@ -1,8 +1,5 @@
 #include "states.h"
 
-#include <stdio.h>
-#include <stdlib.h>
-
 enum { BLOCKS_OF_16 = 32, LONG_TIME = 1000 };
 
 static const uint8_t payload[TRUNHOAC_MOST_PAYLOAD_BYTES] = {
@@ -12,100 +9,65 @@ static const uint8_t payload[TRUNHOAC_MOST_PAYLOAD_BYTES] = {
 /* Whatever is posted, held or published is the first event made, of 16 bytes. */
 static const struct trunhoac_handle event = {0, 0};
 
-static void give_with(struct state *state, const uint8_t *record, const uint8_t *chart, size_t chart_length)
-{
-    struct areas *areas = &state->areas;
-    uint8_t reply[TRUNHOAC_REPLY_BYTES];
-
-    trunhoac_command(&state->kernel, record, TRUNHOAC_RECORD_BYTES, chart, chart_length,
-                     areas->payloads, sizeof areas->payloads, areas->tables, sizeof areas->tables,
-                     areas->log, sizeof areas->log, reply);
-    if (reply[TRUNHOAC_AT_NUMBER] != TRUNHOAC_DONE) {
-        fprintf(stderr, "command %d of a preparation is refused: %d\n", record[0], reply[TRUNHOAC_AT_NUMBER]);
-        exit(EXIT_FAILURE);
-    }
-}
-
-static void give(struct state *state, const uint8_t *record)
-{
-    give_with(state, record, NULL, 0);
-}
-
-static void start(struct state *state, uint8_t p)
-{
-    uint8_t record[TRUNHOAC_RECORD_BYTES];
-    give(state, trunhoac_fill_start(record, p, 0, TRUNHOAC_MOST_DEPTH));
-}
-
 static void make(struct state *state, uint8_t signal, uint8_t size)
 {
-    uint8_t record[TRUNHOAC_RECORD_BYTES];
-    give(state, trunhoac_fill_new(record, signal, payload, size));
-}
-
-static void post(struct state *state, uint8_t p)
-{
-    uint8_t record[TRUNHOAC_RECORD_BYTES];
-    give(state, trunhoac_fill_post(record, event, p, 0));
+    prepare_new(state, signal, payload, size);
 }
 
 static void hold(struct state *state)
 {
     uint8_t record[TRUNHOAC_RECORD_BYTES];
-    give(state, trunhoac_fill_hold(record, event));
+    prepare(state, trunhoac_fill_hold(record, event));
 }
 
 static void subscribe(struct state *state, uint8_t p)
 {
     uint8_t record[TRUNHOAC_RECORD_BYTES];
-    give(state, trunhoac_fill_subscribe(record, p, MOVES));
+    prepare(state, trunhoac_fill_subscribe(record, p, MOVES));
 }
 
 static void next(struct state *state)
 {
     uint8_t record[TRUNHOAC_RECORD_BYTES];
-    give(state, trunhoac_fill_next(record));
+    prepare(state, trunhoac_fill_next(record));
 }
 
 static void end(struct state *state)
 {
     uint8_t record[TRUNHOAC_RECORD_BYTES];
-    give(state, trunhoac_fill_end(record));
+    prepare(state, trunhoac_fill_end(record));
 }
 
 static void defer(struct state *state)
 {
     uint8_t record[TRUNHOAC_RECORD_BYTES];
-    give(state, trunhoac_fill_defer(record, 0));
+    prepare(state, trunhoac_fill_defer(record, 0));
 }
 
 /* Timer 0 belongs to object 1, and so on. */
 static void arm(struct state *state, uint8_t timer, uint16_t ticks)
 {
     uint8_t record[TRUNHOAC_RECORD_BYTES];
-    give(state, trunhoac_fill_arm(record, timer, timer + 1, MOVES, ticks, LONG_TIME));
+    prepare(state, trunhoac_fill_arm(record, timer, timer + 1, MOVES, ticks, LONG_TIME));
 }
 
 void shift_chart_loaded(struct state *state, const struct chart *shift)
 {
-    uint8_t record[TRUNHOAC_RECORD_BYTES];
-
-    memset(state, 0, sizeof *state);
-    trunhoac_fresh(&state->kernel);
-    give_with(state, trunhoac_fill_load(record, 0), shift->bytes, shift->length);
+    prepare_fresh(state);
+    prepare_load(state, 0, shift);
 }
 
 void all_started(struct state *state)
 {
     for (uint8_t p = 1; p <= TRUNHOAC_OBJECTS; p++)
-        start(state, p);
+        prepare_start(state, p, 0);
 }
 
 void all_but_nine_started(struct state *state)
 {
     for (uint8_t p = 1; p <= TRUNHOAC_OBJECTS; p++)
         if (p != 9)
-            start(state, p);
+            prepare_start(state, p, 0);
 }
 
 void one_block_of_16_left(struct state *state)
@@ -130,19 +92,19 @@ void event_made(struct state *state)
 void event_at_nine(struct state *state)
 {
     event_made(state);
-    post(state, 9);
+    prepare_post(state, event, 9);
 }
 
 void event_at_sixteen(struct state *state)
 {
     event_made(state);
-    post(state, 16);
+    prepare_post(state, event, 16);
 }
 
 void event_at_one(struct state *state)
 {
     event_made(state);
-    post(state, 1);
+    prepare_post(state, event, 1);
 }
 
 void event_held_once(struct state *state)
@@ -179,7 +141,7 @@ void event_in_hand(struct state *state)
 void event_in_hand_and_queued(struct state *state)
 {
     event_at_nine(state);
-    post(state, 5);
+    prepare_post(state, event, 5);
     next(state);
 }
 
@@ -242,7 +204,7 @@ static void queued(struct state *state, int times)
     all_started(state);
     make(state, RETURNS, 16);
     for (int queued = 0; queued < times; queued++)
-        post(state, (uint8_t)(TRUNHOAC_OBJECTS - queued % TRUNHOAC_OBJECTS));
+        prepare_post(state, event, (uint8_t)(TRUNHOAC_OBJECTS - queued % TRUNHOAC_OBJECTS));
 }
 
 void queued_16_times(struct state *state)

@@ -2,24 +2,7 @@
 #ifndef BENCH_STATES_H
 #define BENCH_STATES_H
 
-#include "../include/trunhoac.h"
-
-/* What the host lends. */
-struct areas {
-    uint8_t payloads[TRUNHOAC_PAYLOAD_AREA];
-    uint8_t tables[TRUNHOAC_TABLE_AREA];
-    uint8_t log[TRUNHOAC_LOG_AREA];
-};
-
-struct state {
-    struct trunhoac_kernel kernel;
-    struct areas areas;
-};
-
-struct chart {
-    uint8_t bytes[TRUNHOAC_MOST_CHART_BYTES];
-    size_t length;
-};
+#include "prepare.h"
 
 /* Signals, as the shift chart takes them at its first state of rest, 2. */
 enum {

@@ -17,6 +17,12 @@ double processor_time(void);
 /* The spread of the times, which are put in order. */
 struct spread spread_of(double *times, size_t count);
 
+/* With what the timing itself takes left out. */
+struct spread without(struct spread ns, double harness);
+
+/* Times every case in every round, so that a slow moment hits all of them. */
+void time_in_rounds(double (*time_case)(size_t c), size_t cases, size_t rounds, double times[cases][rounds]);
+
 /* The compiler must take it that somebody reads and writes the memory, so it cannot leave out what wrote it. */
 static inline void taken_as_used(void *memory)
 {

@@ -17,7 +17,7 @@ use numbers::ROW_BYTES;
 const ZEROS: usize = 21;
 
 // Signals, and rows behind the start row.
-const SIGNALS: usize = numbers::LAST_SIGNAL - numbers::FIRST_SIGNAL + 1;
+pub const SIGNALS: usize = numbers::LAST_SIGNAL - numbers::FIRST_SIGNAL + 1;
 
 const ROWS: usize = MOST_STATES * SIGNALS;
 

@@ -1,47 +1,86 @@
--- What a step finds, and what it makes of the arrays.
+-- What a step finds, and what it makes of the run.
 use mathlib.Core.Bool.{true, false}
-use mathlib.Core.List.{List, [], _∷_, _++_}
+use mathlib.Core.List.{List, []}
+use mathlib.Core.Logic.{⊎-elim}
 use mathlib.Core.Path.{_≡_, refl, sym, ap, _∙_}
-use Prim.Native.Nat.{ℕ, _+_, _*_, _-_, _<_, _≤_}
-use native.Mathlib.Numerals.{add-one}
+use Prim.Native.Nat.{ℕ, zero, suc, _+_, _*_, _-_, _<_, _≤_, min}
 use native.Mathlib.Omega.{arith}
 use borrow.Author.Tests.{eq-eqb, ne-eqb}
 use borrow.Rule.Slice.PartMut.{putMid, midOf}
 use lib.Dec.{eqb}
-use lib.ListN.{length, getD, set, take, drop, length-drop}
-use lib.Seq.{length-take-le, take-suc-set}
-use Rattle.chart.specs.Flat.{sound}
-use Rattle.chart.specs.Numbers.{rowSize}
-use Rattle.ground.specs.Bytes.{padded}
-use Rattle.ground.specs.Padding.{padded-whole}
+use lib.ListN.{length, getD, set, take, drop, length-drop, List·getD-eq-default}
+use lib.Seq.{drop-drop, getD-set-same, length-take-le, set-set}
+use Rattle.chart.specs.Flat.{place, rowAt, sound}
+use Rattle.chart.specs.Numbers.{firstSignal, rowSize, slotSize}
+use Rattle.ground.specs.Bools.{eq-or}
 use Rattle.ground.specs.Parts.{part-over}
 use Rattle.ground.specs.Tab.{getD-tab}
 use Rattle.machine.proofs.KeepsCharts.{sound-row}
-use Rattle.machine.specs.Inv.{IsEvent}
+use Rattle.machine.specs.Inv.{IsEvent, IsSignal}
 use Rattle.machine.specs.Numbers.{objects, signalPlaces, tableBytes, mostSteps, logBytes, replyBytes}
-use Rattle.machine.specs.Reply.{IDLE, TABLE, lowest, over}
-use Rattle.machine.specs.Run.{Run, Fit, blockOf, onward, seen}
+use Rattle.machine.specs.Reply.{IDLE, TABLE, lowest, over, replyOf, ran}
+use Rattle.machine.specs.Run.{Run, Fit, onward, seen}
 use Rattle.machine.specs.State.{State, restOf, slotOf}
-use Rattle.machine.specs.Steps.{toRun, coming, signalOf, nextRow, nextSays, stepTests, logged}
-use Rattle.mail.specs.Box.{front, highest}
+use Rattle.machine.specs.Steps.{toRun, coming, signalOf, handle₁, nextRow, nextSays, stepTests, logged}
+use Rattle.mail.specs.Box.{boxAt, front, highest, highestOf, tookFirst, tookFront, rest}
 use Rattle.mail.specs.Entry.{handOf}
-use Rattle.mail.specs.View.{boxes}
+use Rattle.mail.specs.Laws.{changed-here, changed-other, first-front, first-length, first-more, mail-within, rest-length}
+use Rattle.mail.specs.View.{boxes, boxes-length, queued-in}
 use Rattle.pool.specs.Cell.{free, absent, generationOf}
-use Rattle.pool.specs.Row.{blocks, generationAt}
-use Rattle.drain.specs.Turn.{Generations, Looks, Runs, Acts, runAt}
+use Rattle.pool.specs.Laws.{once-more-set}
+use Rattle.pool.specs.Row.{blocks, firstBytes, generationAt, onceMore}
+use Rattle.drain.specs.Lent.{Above, Generations, Looks, Runs, midway}
 use Rattle.drain.specs.declared.Coming.{Coming}
 
--- line n of the log, as its part comes back
-module _ (log line v : List ℕ) (n : ℕ) (l : length log ≡ logBytes) (h : n < mostSteps) (e : length line ≡ replyBytes) where
-  pub log-line : let a = replyBytes * n in let k = a + replyBytes - a in v ≡ padded (length (midOf a k log)) line → putMid a k log v ≡ over log a line
+-- line n of the log: the part that it takes, and how that comes back
+module _ (log line : List ℕ) (n : ℕ) (l : length log ≡ logBytes) (h : n < mostSteps) (e : length line ≡ replyBytes) where
+  pub line-part : let a = replyBytes * n in length line ≡ length (midOf a (a + replyBytes - a) log)
+  line-part =
+      let a = replyBytes * n in
+      let z : a + replyBytes - a ≡ replyBytes = omega arith in
+      e ∙ sym (length-take-le (a + replyBytes - a) _ (rw length-drop (omega arith)) ∙ z)
+
+  pub log-line : (v : List ℕ) → v ≡ line → let a = replyBytes * n in putMid a (a + replyBytes - a) log v ≡ over log a line
   unfolding over
-  log-line p =
+  log-line v w =
       let a = replyBytes * n in
       let k = a + replyBytes - a in
       let z : k ≡ replyBytes = omega arith in
-      let m : length (midOf a k log) ≡ replyBytes = length-take-le k _ (rw length-drop (omega arith)) ∙ z in
-      let w : v ≡ line = p ∙ padded-whole _ line (e ∙ sym m) in
       part-over a k log v (ap length w ∙ e ∙ sym z) ∙ rw w refl
+
+-- Mailboxes of which those from p on are empty.
+module _ (bs : List (List ℕ)) (p : ℕ) (above : Above p bs) where
+  top-of : (n : ℕ) → 0 < p → p ≤ n → (length (boxAt bs (p - 1)) ≡ 0 → ⊥) → p ≡ highestOf bs n
+  unfolding highestOf
+  top-of zero l h ne = absurd (omega arith)
+  top-of (suc n) l h ne =
+      ⊎-elim
+      (λ e. let z : p - 1 ≡ n = omega arith in rw (ne-eqb (length (boxAt bs n)) 0 (rw z at ne)) e)
+      (λ d. rw (eq-eqb (length (boxAt bs n)) 0 (above n (omega arith))) (top-of n l (omega arith) ne))
+      (eq-or p (suc n))
+
+  -- the next below is the highest, if it has mail
+  pub top-is : 0 < p → p ≤ length bs → (length (boxAt bs (p - 1)) ≡ 0 → ⊥) → p ≡ highest bs
+  top-is l h ne = top-of (length bs) l h ne
+
+  above-below : length (boxAt bs (p - 1)) ≡ 0 → Above (p - 1) bs
+  above-below e q h = ⊎-elim (λ z. rw z e) (λ d. above q (omega arith)) (eq-or q (p - 1))
+
+-- at first all of them
+pub above-all : (pl hs cs : List ℕ) → Above (length cs) (boxes pl hs cs)
+above-all pl hs cs q h = ap length (List·getD-eq-default (boxes pl hs cs) [] (omega (arith, boxes-length pl hs cs)))
+
+-- an object whose count is 0 has no mail either
+pub above-empty : (pl hs cs : List ℕ) (p : ℕ) → Above p (boxes pl hs cs) → getD cs (p - 1) 0 ≡ 0 → Above (p - 1) (boxes pl hs cs)
+above-empty pl hs cs p above e = above-below (boxes pl hs cs) p above (queued-in pl hs cs (p - 1) ∙ e)
+
+none-of : (bs : List (List ℕ)) → Above 0 bs → (n : ℕ) → highestOf bs n ≡ 0
+unfolding highestOf
+none-of bs above zero = refl
+none-of bs above (suc n) = rw (eq-eqb (length (boxAt bs n)) 0 (above n (omega arith))) (none-of bs above n)
+
+pub none-is : (bs : List (List ℕ)) → Above 0 bs → 0 ≡ highest bs
+none-is bs above = sym (none-of bs above (length bs))
 
 -- The tests of a step in the state s, of which p is the object that is to run.
 module _ (s : State) (tables : List ℕ) (p : ℕ) (e : p ≡ toRun s) where
@@ -61,60 +100,40 @@ module _ (s : State) (tables : List ℕ) (p : ℕ) (e : p ≡ toRun s) where
     unfolding stepTests lowest
     row-sound t = rw (some-queued, t) refl
 
-  pub entry-event : (x : ℕ) → x ≡ front (s .boxes) (p - 1) → Fit s → IsEvent (handOf x)
+  pub coming-is : (x : ℕ) → x ≡ front (s .boxes) (p - 1) → handOf x ≡ coming s
   unfolding coming
-  entry-event x h f = rw (h, e) (f .event)
+  coming-is x h = rw (h, e) refl
 
-  -- The event that comes, as the object's front entry shows it.
-  module _ (l : Coming) (w : Looks s (front (s .boxes) (p - 1)) (restOf s p) (slotOf s p) l) where
-    pub hand-is : l .hand ≡ coming s
-    unfolding coming
-    hand-is = rw (w .hand, e) refl
+  -- The event that comes, as it is seen, and the place of its row.
+  module _ (l : Coming) (w : Looks s (coming s) l) (f : Fit s) where
+    pub low-signal : firstSignal ≤ l .signal
+    low-signal = rw (w .signal) (f .signal .low)
 
-    pub signal-is : l .signal ≡ signalOf s (coming s)
-    unfolding coming
-    signal-is = rw (w .signal, e) refl
+    -- Read in the tables.
+    module _ (at : ℕ) (a : at ≡ slotSize * slotOf s p + place (restOf s p) (l .signal)) where
+      pub row-read : take (at + rowSize - at) (drop at tables) ≡ nextRow s tables
+      unfolding nextRow
+      row-read = let z : at + rowSize - at ≡ rowSize = omega arith in rw (z, a, w .signal, e) refl
 
-    pub row-read : take (l .at + rowSize - l .at) (drop (l .at) tables) ≡ nextRow s tables
-    unfolding nextRow coming
-    row-read = let z : l .at + rowSize - l .at ≡ rowSize = omega arith in rw (z, w .at, e) refl
+      pub row-end : at + rowSize ≤ tableBytes
+      row-end = rw (a, w .signal, e) (f .end)
 
-    pub row-end : Fit s → l .at + rowSize ≤ tableBytes
-    unfolding coming
-    row-end f = rw (w .at, e) (f .end)
+    -- Read in the object's slot.
+    module _ (slot : List ℕ) (o : slot ≡ drop (slotSize * slotOf s p) tables) (at : ℕ) (a : at ≡ place (restOf s p) (l .signal)) where
+      pub slot-row-read : take (at + rowSize - at) (drop at slot) ≡ nextRow s tables
+      slot-row-read =
+          let z : at + rowSize - at ≡ slotSize * slotOf s p + at + rowSize - (slotSize * slotOf s p + at) = omega arith in
+          rw (z, o, drop-drop) (row-read (slotSize * slotOf s p + at) (rw a refl))
 
-    pub runs : Fit s → p ≤ objects → (row : List ℕ) → sound row ≡ true → Runs p l row
-    runs f h row t =
-        let g : l .signal < signalPlaces = rw signal-is (omega (arith, f .signal .high)) in
+      pub slot-row-end : length tables ≡ tableBytes → at + rowSize ≤ length slot
+      slot-row-end t = let h = row-end (slotSize * slotOf s p + at) (rw a refl) in rw (o, length-drop) (omega arith)
+
+    pub runs : p ≤ objects → (row : List ℕ) → sound row ≡ true → Runs p l row
+    runs h row t =
+        let g : l .signal < signalPlaces = rw (w .signal) (omega (arith, f .signal .high)) in
         let o = sound-row row t in
-        record { object = omega arith; event = rw hand-is (f .event); signal = g; long = o .0; outcome = o .1 }
+        record { object = omega arith; signal = g; long = o .0; outcome = o .1 }
 
-seen-generations : (gens signals seats : List ℕ) (x : Run) → Generations (seen gens signals seats x) gens
+pub seen-generations : (gens signals seats : List ℕ) (x : Run) → Generations (seen gens signals seats x) gens
 unfolding generationAt generationOf
 seen-generations gens signals seats x b h = ap generationOf (getD-tab (λ k. free (getD gens k 0)) blocks b absent h)
-
--- What a step makes of the arrays is the run's next.
-module _ (gens signals seats tables pl hs cs rs gn lg : List ℕ) (n p : ℕ) (e : p ≡ highest (boxes pl hs cs)) (l : Coming) where
-  abbrev here : State
-  here = seen gens signals seats (runAt pl hs cs rs gn lg n)
-
-  module _ (w : Looks here (front (here .boxes) (p - 1)) (restOf here p) (slotOf here p) l) (ne : p ≡ 0 → ⊥) (h : n < length gn) (row : List ℕ) (r : row ≡ nextRow here tables) where
-    pub acted : (hs' cs' rs' gn' lg' : List ℕ) → Acts pl hs cs rs gn lg gens row (p - 1) l n hs' cs' rs' gn' lg' →
-        runAt pl hs' cs' rs' gn' lg' (n + 1) ≡ onward gens signals seats tables (runAt pl hs cs rs gn lg n)
-    unfolding onward logged nextSays
-    acted hs' cs' rs' gn' lg' a =
-        let q : p - 1 + 1 ≡ p = omega arith in
-        let k : take (n + 1) (set gn n (blockOf (l .hand))) ≡ take n gn ++ (blockOf (l .hand) ∷ []) = rw add-one (take-suc-set gn n _ h) in
-        rw (
-          a .holds .are,
-          a .rests,
-          a .gone,
-          a .log here (seen-generations gens signals seats (runAt pl hs cs rs gn lg n)),
-          k,
-          q,
-          hand-is here tables p e l w,
-          signal-is here tables p e l w,
-          r,
-          e,
-        )
-        refl

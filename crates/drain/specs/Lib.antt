@@ -1,2 +1,2 @@
--- Turn: what one step reads, needs and makes of the arrays.
-pub mod Turn
+-- Lent: what one step reads, needs and makes of the arrays.
+pub mod Lent

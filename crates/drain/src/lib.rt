@@ -1,27 +1,27 @@
 // Steps: what NEXT reads of the event that comes, and DRAIN's steps over arrays that the kernel lends. The steps leave the blocks alone:
-// they note which are let go, and the kernel then lets go of all of them.
+// they note how often each is let go, and the kernel then lets go of all of them.
 ghost use mathlib.Core.Bool.{cond};
 ghost use mathlib.Core.List.{List};
 ghost use mathlib.Core.Path.{_≡_};
-ghost use Prim.Native.Nat.{ℕ, _+_, _-_, _<_, _≤_};
+ghost use Prim.Native.Nat.{ℕ, _-_, _<_, _≤_};
 ghost use lib.Dec.{eqb, ltb};
-ghost use lib.ListN.{getD, length};
+ghost use lib.ListN.{getD, length, set};
 ghost use Rattle.machine.specs.Inv.{IsEvent};
 ghost use Rattle.machine.specs.Numbers.{tableBytes, mostSteps, objects};
 ghost use Rattle.machine.specs.Reply.{replyOf, ran};
-ghost use Rattle.machine.specs.Run.{FitFor, FitRun, blockOf, runFrom, seen};
+ghost use Rattle.machine.specs.Run.{FitRun, blockOf, runFrom};
 ghost use Rattle.machine.specs.State.{State};
-ghost use Rattle.machine.specs.Steps.{signalOf, handle₁, handle₂};
-ghost use Rattle.mail.specs.Box.{highest};
+ghost use Rattle.mail.specs.Box.{highest, tookFirst};
 ghost use Rattle.mail.specs.Entry.{handOf};
-ghost use Rattle.mail.specs.View.{boxes};
-ghost use Rattle.drain.specs.Turn.{Acts, Generations, Looks, Runs, Sized, Turn, runAt};
-use ground::fill;
+ghost use Rattle.mail.specs.View.{Holds, Mail, boxes};
+ghost use Rattle.drain.specs.Lent.{Above, Generations, Looks, Runs, Sized, Stretch, runAt};
+use ground::copy;
+use ground::least;
 use ground::wide;
 use mail::Hand;
 use numbers::ALL_PLACES;
 use numbers::BLOCKS;
-use numbers::MOST_STEPS;
+use numbers::FIRST_BYTES;
 use numbers::OBJECTS;
 use numbers::REPLY_BYTES;
 use numbers::ROW_BYTES;
@@ -38,51 +38,11 @@ const STOPPED: u8 = 2;
 // For an event that is no block.
 const NO_BLOCK: u8 = 255;
 
-// An event with its signal, and where the row for it begins.
+// An event that comes: its signal, and the two bytes of its handle.
 pub struct Coming {
-    pub hand: Hand,
     pub signal: u8,
-    pub at: usize,
-}
-
-fn signal_of(signals: &[u8; BLOCKS], h: Hand) -> u8
-    requires { ⌜ IsEvent h ⌝ }
-    ensures { λ r. ⌜ ((s : State) → s .events .signals ≡ now (signals .entry) → r ≡ signalOf s h) ⌝ }
-{
-    match h {
-        Hand::Nothing => 0,
-        Hand::Block(b) => {
-            let i = wide(b);
-            signals[i]
-        }
-        Hand::Timer(_, g) => g,
-    }
-}
-
-// NEXT's two values: the handle of an event.
-fn first_value(h: Hand) -> u8
-    requires { ⌜ IsEvent h ⌝ }
-    ensures { λ r. ⌜ r ≡ handle₁ h ⌝ }
-{
-    match h {
-        Hand::Nothing => 0,
-        Hand::Block(b) => b,
-        Hand::Timer(t, _) => TIMER + t,
-    }
-}
-
-fn second_value(gens: &[u8; BLOCKS], h: Hand) -> u8
-    requires { ⌜ IsEvent h ⌝ }
-    ensures { λ r. ⌜ ((s : State) → Generations s (now (gens .entry)) → r ≡ handle₂ s h) ⌝ }
-{
-    match h {
-        Hand::Nothing => 0,
-        Hand::Block(b) => {
-            let i = wide(b);
-            gens[i]
-        }
-        Hand::Timer(_, _) => 0,
-    }
+    pub first: u8,
+    pub second: u8,
 }
 
 // The block that an event is; 255, which is no block, for a timer.
@@ -96,62 +56,62 @@ pub fn block_of(h: Hand) -> u8
     }
 }
 
-// The event of an entry, for an object that rests in a state, on a slot.
-pub fn look(signals: &[u8; BLOCKS], e: u16, rest: u8, seat: u8) -> Coming
+// The event of an entry.
+pub fn look(signals: &[u8; BLOCKS], gens: &[u8; BLOCKS], e: u16) -> Coming
     requires { ⌜ IsEvent (handOf e) ⌝ }
-    ensures { λ r. ⌜ ((s : State) → s .events .signals ≡ now (signals .entry) → Looks s e rest seat r) ⌝ }
+    ensures { λ r. ⌜ ((s : State) → s .events .signals ≡ now (signals .entry) → Generations s (now (gens .entry)) → Looks s (handOf e) r) ⌝ }
 {
-    let hand = mail::hand_of(e);
-    let signal = signal_of(signals, hand);
-    let at = SLOT_BYTES * wide(seat) + chart::row_place(rest, signal);
-    Coming { hand, signal, at }
+    match mail::hand_of(e) {
+        Hand::Nothing => Coming {
+            signal: 0,
+            first: 0,
+            second: 0,
+        },
+        Hand::Block(b) => {
+            let i = wide(b);
+            Coming {
+                signal: signals[i],
+                first: b,
+                second: gens[i],
+            }
+        }
+        Hand::Timer(t, g) => Coming {
+            signal: g,
+            first: TIMER + t,
+            second: 0,
+        },
+    }
 }
 
 // NEXT's answer: object p takes a row.
-pub fn answer(p: usize, l: Coming, gens: &[u8; BLOCKS], row: &[u8]) -> [u8; REPLY_BYTES]
+pub fn answer(p: usize, l: Coming, row: &[u8]) -> [u8; REPLY_BYTES]
     requires { ⌜ Runs p l (now row) ⌝ }
-    ensures { λ r. ⌜ ((s : State) → Generations s (now (gens .entry)) →
-        r ≡ replyOf (ran p (l .signal) (handle₁ (l .hand)) (handle₂ s (l .hand)) (now (row .entry)))) ⌝ }
+    ensures { λ r. ⌜ r ≡ replyOf (ran p (l .signal) (l .first) (l .second) (now (row .entry))) ⌝ }
 {
-    let hand = l.hand;
-    let v = first_value(hand);
-    let w = second_value(gens, hand);
-    reply::ran(p as u8, l.signal, v, w, row)
+    reply::ran(p as u8, l.signal, l.first, l.second, row)
 }
 
-// Object q takes a row with the event l, as step n of a run.
-fn take_step(
-    places: &[u16; ALL_PLACES],
+// Object q has taken so many of its entries, and rests in a state.
+fn settle(
     heads: &mut [u8; OBJECTS],
     counts: &mut [u8; OBJECTS],
     rests: &mut [u8; OBJECTS],
-    gens: &[u8; BLOCKS],
-    gone: &mut [u8; MOST_STEPS],
-    log: &mut [u8],
-    row: &[u8],
     q: usize,
-    l: Coming,
-    n: usize,
+    taken: usize,
+    rest: u8,
 )
-    requires { ⌜ Sized (now places) (now heads) (now counts) (now gone) (now log) ⌝ }
-    requires { ⌜ (q < objects) × (0 < getD (now counts) q 0) × (n < mostSteps) ⌝ }
-    requires { ⌜ Runs (q + 1) l (now row) ⌝ }
-    ensures { λ _. ⌜ Acts (now (places .entry)) (now (heads .entry)) (now (counts .entry)) (now (rests .entry)) (now (gone .entry)) (now (log .entry))
-        (now (gens .entry)) (now (row .entry)) q l n (now (heads .exit)) (now (counts .exit)) (now (rests .exit)) (now (gone .exit)) (now (log .exit)) ⌝ }
+    requires { ⌜ (q < length (now counts)) × (length (now heads) ≡ length (now counts)) × (taken ≤ getD (now counts) q 0) ⌝ }
+    ensures { λ _. ⌜ ((places : List ℕ) → Mail places (now (heads .entry)) (now (counts .entry)) →
+        Holds places (now (heads .exit)) (now (counts .exit)) (tookFirst (boxes places (now (heads .entry)) (now (counts .entry))) q taken)) ⌝ }
+    ensures { λ _. ⌜ now (rests .exit) ≡ set (now (rests .entry)) q rest ⌝ }
 {
-    let line = answer(q + 1, l, gens, row);
-    let hand = l.hand;
-    mail::take_front(places, heads, counts, q);
-    rests[q] = row[0];
-    gone[n] = block_of(hand);
-    fill(
-        &mut log[REPLY_BYTES * n..REPLY_BYTES * n + REPLY_BYTES],
-        &line,
-    );
+    mail::leave(heads, counts, q, taken);
+    rests[q] = rest;
 }
 
-// One turn of DRAIN, as step n: whether a step is taken. Where nothing is queued, or the row is unsound, nothing changes.
-fn drain_step(
+// The steps of object p, which has mail where no higher one has, from step `from` of a run on: how many steps the run has then. The
+// state of rest and the mailbox are written back at the end.
+fn run_object(
     places: &[u16; ALL_PLACES],
     heads: &mut [u8; OBJECTS],
     counts: &mut [u8; OBJECTS],
@@ -159,37 +119,94 @@ fn drain_step(
     seats: &[u8; OBJECTS],
     signals: &[u8; BLOCKS],
     gens: &[u8; BLOCKS],
-    gone: &mut [u8; MOST_STEPS],
+    times: &mut [u8; FIRST_BYTES],
     tables: &[u8],
     log: &mut [u8],
-    n: usize,
-) -> bool
-    requires { ⌜ Sized (now places) (now heads) (now counts) (now gone) (now log) ⌝ }
-    requires { ⌜ (length (now tables) ≡ tableBytes) × (n < mostSteps) ⌝ }
-    requires { ⌜ FitFor (seen (now gens) (now signals) (now seats) (runAt (now places) (now heads) (now counts) (now rests) (now gone) (now log) n)) ⌝ }
-    ensures { λ r. ⌜ Turn (now (gens .entry)) (now (signals .entry)) (now (seats .entry)) (now (tables .entry))
-        (runAt (now (places .entry)) (now (heads .entry)) (now (counts .entry)) (now (rests .entry)) (now (gone .entry)) (now (log .entry)) n)
-        (runAt (now (places .entry)) (now (heads .exit)) (now (counts .exit)) (now (rests .exit)) (now (gone .exit)) (now (log .exit)) (n + 1))
-        (runAt (now (places .entry)) (now (heads .exit)) (now (counts .exit)) (now (rests .exit)) (now (gone .exit)) (now (log .exit)) n) r ⌝ }
-    ensures { λ _. ⌜ Sized (now (places .entry)) (now (heads .exit)) (now (counts .exit)) (now (gone .exit)) (now (log .exit)) ⌝ }
+    budget: usize,
+    p: usize,
+    from: usize,
+) -> usize
+    requires { ⌜ Sized (now places) (now heads) (now counts) (now rests) (now times) (now log) from × (length (now tables) ≡ tableBytes) × (budget ≤ mostSteps) ⌝ }
+    requires { ⌜ (from ≤ budget) × (0 < p) × (p ≤ objects) × Above p (boxes (now places) (now heads) (now counts)) × (0 < getD (now counts) (p - 1) 0) ⌝ }
+    requires { ⌜ FitRun (now gens) (now signals) (now seats) (now tables) (runAt (now places) (now heads) (now counts) (now rests) (now times) (now log) from) ⌝ }
+    ensures { λ r. ⌜ Stretch (now (gens .entry)) (now (signals .entry)) (now (seats .entry)) (now (tables .entry)) p budget
+        (runAt (now (places .entry)) (now (heads .entry)) (now (counts .entry)) (now (rests .entry)) (now (times .entry)) (now (log .entry)) from)
+        (runAt (now (places .entry)) (now (heads .exit)) (now (counts .exit)) (now (rests .exit)) (now (times .exit)) (now (log .exit)) r) ⌝ }
+    ensures { λ r. ⌜ Sized (now (places .entry)) (now (heads .exit)) (now (counts .exit)) (now (rests .exit)) (now (times .exit)) (now (log .exit)) r ⌝ }
 {
-    let p = mail::highest(counts);
-    if p == 0 {
-        return false;
-    }
     let q = p - 1;
-    let e = mail::front(places, heads, counts, q);
-    let l = look(signals, e, rests[q], seats[q]);
-    let at = l.at;
-    let row = &tables[at..at + ROW_BYTES];
-    if !chart::sound(row) {
-        return false;
+    let slot = &tables[SLOT_BYTES * wide(seats[q])..];
+    let end = least(from + wide(counts[q]), budget);
+    let mut rest = rests[q];
+    let mut n = from;
+    while n < end {
+        let e = mail::entry(places, heads, counts, q, n - from);
+        let l = look(signals, gens, e);
+        let at = chart::row_place(rest, l.signal);
+        let row = &slot[at..at + ROW_BYTES];
+        if !chart::sound(row) {
+            settle(heads, counts, rests, q, n - from, rest);
+            return n;
+        }
+        rest = row[0];
+        let line = answer(p, l, row);
+        copy(
+            &mut log[REPLY_BYTES * n..REPLY_BYTES * n + REPLY_BYTES],
+            &line,
+        );
+        let b = wide(l.first);
+        times[b] += 1;
+        n += 1;
     }
-    take_step(places, heads, counts, rests, gens, gone, log, row, q, l, n);
-    true
+    settle(heads, counts, rests, q, n - from, rest);
+    n
 }
 
-// DRAIN's steps, at most as many as the budget: how many were taken. The blocks to let go are noted, in order.
+// The steps of object p, if it has mail.
+fn turn(
+    places: &[u16; ALL_PLACES],
+    heads: &mut [u8; OBJECTS],
+    counts: &mut [u8; OBJECTS],
+    rests: &mut [u8; OBJECTS],
+    seats: &[u8; OBJECTS],
+    signals: &[u8; BLOCKS],
+    gens: &[u8; BLOCKS],
+    times: &mut [u8; FIRST_BYTES],
+    tables: &[u8],
+    log: &mut [u8],
+    budget: usize,
+    p: usize,
+    from: usize,
+) -> usize
+    requires { ⌜ Sized (now places) (now heads) (now counts) (now rests) (now times) (now log) from × (length (now tables) ≡ tableBytes) × (budget ≤ mostSteps) ⌝ }
+    requires { ⌜ (from ≤ budget) × (0 < p) × (p ≤ objects) × Above p (boxes (now places) (now heads) (now counts)) ⌝ }
+    requires { ⌜ FitRun (now gens) (now signals) (now seats) (now tables) (runAt (now places) (now heads) (now counts) (now rests) (now times) (now log) from) ⌝ }
+    ensures { λ r. ⌜ Stretch (now (gens .entry)) (now (signals .entry)) (now (seats .entry)) (now (tables .entry)) p budget
+        (runAt (now (places .entry)) (now (heads .entry)) (now (counts .entry)) (now (rests .entry)) (now (times .entry)) (now (log .entry)) from)
+        (runAt (now (places .entry)) (now (heads .exit)) (now (counts .exit)) (now (rests .exit)) (now (times .exit)) (now (log .exit)) r) ⌝ }
+    ensures { λ r. ⌜ Sized (now (places .entry)) (now (heads .exit)) (now (counts .exit)) (now (rests .exit)) (now (times .exit)) (now (log .exit)) r ⌝ }
+{
+    if counts[p - 1] == 0 {
+        return from;
+    }
+    run_object(
+        places,
+        heads,
+        counts,
+        rests,
+        seats,
+        signals,
+        gens,
+        times,
+        tables,
+        log,
+        budget,
+        p,
+        from,
+    )
+}
+
+// DRAIN's steps, at most as many as the budget: how many were taken, and how often each block is to be let go.
 pub fn run(
     places: &[u16; ALL_PLACES],
     heads: &mut [u8; OBJECTS],
@@ -198,21 +215,22 @@ pub fn run(
     seats: &[u8; OBJECTS],
     signals: &[u8; BLOCKS],
     gens: &[u8; BLOCKS],
-    gone: &mut [u8; MOST_STEPS],
+    times: &mut [u8; FIRST_BYTES],
     tables: &[u8],
     log: &mut [u8],
     budget: usize,
 ) -> usize
-    requires { ⌜ Sized (now places) (now heads) (now counts) (now gone) (now log) × (length (now tables) ≡ tableBytes) × (budget ≤ mostSteps) ⌝ }
-    requires { ⌜ FitRun (now gens) (now signals) (now seats) (now tables) (runAt (now places) (now heads) (now counts) (now rests) (now gone) (now log) 0) ⌝ }
-    ensures { λ r. ⌜ Sized (now (places .entry)) (now (heads .exit)) (now (counts .exit)) (now (gone .exit)) (now (log .exit))
-        × (runAt (now (places .entry)) (now (heads .exit)) (now (counts .exit)) (now (rests .exit)) (now (gone .exit)) (now (log .exit)) r
+    requires { ⌜ Sized (now places) (now heads) (now counts) (now rests) (now times) (now log) 0 × (length (now tables) ≡ tableBytes) × (budget ≤ mostSteps) ⌝ }
+    requires { ⌜ FitRun (now gens) (now signals) (now seats) (now tables) (runAt (now places) (now heads) (now counts) (now rests) (now times) (now log) 0) ⌝ }
+    ensures { λ r. ⌜ Sized (now (places .entry)) (now (heads .exit)) (now (counts .exit)) (now (rests .exit)) (now (times .exit)) (now (log .exit)) r
+        × (runAt (now (places .entry)) (now (heads .exit)) (now (counts .exit)) (now (rests .exit)) (now (times .exit)) (now (log .exit)) r
         ≡ runFrom (now (gens .entry)) (now (signals .entry)) (now (seats .entry)) (now (tables .entry)) budget
-        (runAt (now (places .entry)) (now (heads .entry)) (now (counts .entry)) (now (rests .entry)) (now (gone .entry)) (now (log .entry)) 0)) ⌝ }
+        (runAt (now (places .entry)) (now (heads .entry)) (now (counts .entry)) (now (rests .entry)) (now (times .entry)) (now (log .entry)) 0)) ⌝ }
 {
     let mut n = 0;
-    while n < budget {
-        if !drain_step(
+    let mut p = OBJECTS;
+    while 0 < p {
+        n = turn(
             places,
             heads,
             counts,
@@ -220,14 +238,17 @@ pub fn run(
             seats,
             signals,
             gens,
-            gone,
+            times,
             tables,
             log,
+            budget,
+            p,
             n,
-        ) {
+        );
+        if counts[p - 1] != 0 {
             return n;
         }
-        n += 1;
+        p -= 1;
     }
     n
 }

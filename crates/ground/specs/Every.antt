@@ -1,8 +1,9 @@
--- Laws of `every`: one turn of a loop that tests each number of a range, and what the whole says of one of them.
-use mathlib.Core.Bool.{Bool, true, false}
+-- Laws of `every`: one turn of a loop that tests each number of a range, what the whole says of one of them, and a range in two parts.
+use mathlib.Core.Bool.{Bool, true, false, _&&_, and-assoc}
 use mathlib.Core.Logic.{⊎-elim}
-use mathlib.Core.Path.{_≡_, refl}
+use mathlib.Core.Path.{_≡_, refl, sym}
 use Prim.Native.Nat.{ℕ, zero, suc, _+_, _-_, _<_, _≤_}
+use native.Mathlib.Nat.{add-suc, add-zero, suc-add, zero-add}
 use native.Mathlib.Numerals.{add-one}
 use native.Mathlib.Omega.{arith}
 use Rattle.ground.specs.Bools.{and-left, and-right, and-both, eq-or}
@@ -41,3 +42,15 @@ module _ (p : ℕ → Bool) where
 
   pub every-all : (i e : ℕ) → ((k : ℕ) → i ≤ k → k < e → p k ≡ true) → every p i e ≡ true
   every-all i e h = from-all i (e - i) (λ k a b. h k a (omega arith))
+
+  from-cut : (i m n : ℕ) → everyFrom p i (m + n) ≡ (everyFrom p i m && everyFrom p (i + m) n)
+  unfolding everyFrom
+  from-cut i zero n = rw (zero-add n, add-zero i) refl
+  from-cut i (suc m) n =
+      rw (suc-add m n, add-suc i m, ← suc-add i m, from-cut (suc i) m n) (sym (and-assoc (p i) (everyFrom p (suc i) m) (everyFrom p (suc i + m) n)))
+
+  pub every-cut : (i m e : ℕ) → i ≤ m → m ≤ e → every p i e ≡ (every p i m && every p m e)
+  every-cut i m e h g =
+      let a : e - i ≡ (m - i) + (e - m) = omega arith in
+      let b : i + (m - i) ≡ m = omega arith in
+      rw a (rw b at (from-cut i (m - i) (e - m)))

@@ -20,28 +20,6 @@ fn made() -> Kernel
     kernel::fresh()
 }
 
-// The kernel after a command, whose reply is written.
-fn answer(
-    k: Kernel,
-    record: &[u8],
-    chart: &[u8],
-    payloads: &mut [u8],
-    tables: &mut [u8],
-    log: &mut [u8],
-    reply: &mut [u8; REPLY_BYTES],
-) -> Kernel
-    requires { ⌜ Good k ⌝ }
-    ensures { λ r. ⌜ Good r
-        × (told r (now (reply .exit)) (areas (now (payloads .exit)) (now (tables .exit)) (now (log .exit)))
-        ≡ answerTo (stateOf k) (now («record» .entry)) (now (chart .entry))
-        (areas (now (payloads .entry)) (now (tables .entry)) (now (log .entry)))) ⌝ }
-{
-    let a = kernel::command(k, record, chart, payloads, tables, log);
-    let bytes = a.reply;
-    *reply = bytes;
-    a.kernel
-}
-
 // Writes where the part that READ hands back begins, and how long it is.
 fn find_part(k: Kernel, record: &[u8], payloads: &[u8], place: &mut usize, length: &mut usize)
     requires { ⌜ Good k ⌝ }
@@ -77,7 +55,7 @@ pub extern "C" fn trunhoac_command(
         ≡ answerTo (stateOf (now (k .entry))) (now («record» .entry)) (now (chart .entry))
         (areas (now (payloads .entry)) (now (tables .entry)) (now (log .entry)))) ⌝ }
 {
-    *k = answer(*k, record, chart, payloads, tables, log, reply);
+    *k = kernel::answer_to(*k, record, chart, payloads, tables, log, reply);
 }
 
 // Where the part that READ hands back begins in the payload area, and how long it is; 0 and 0 when refused, and for any other record.

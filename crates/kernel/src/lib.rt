@@ -2,10 +2,11 @@
 ghost use mathlib.Core.Path.{_≡_};
 ghost use Prim.Native.Nat.{_+_, _≤_};
 ghost use lib.ListN.{length};
-ghost use Rattle.state.specs.View.{answered, areas, Good, stateOf};
+ghost use Rattle.state.specs.View.{answered, areas, Good, stateOf, told};
 ghost use Rattle.machine.specs.Machine.{answerTo, partAt, partOf};
 ghost use Rattle.machine.specs.State.{freshState};
 use numbers::RECORD_BYTES;
+use numbers::REPLY_BYTES;
 use numbers::answer::FORM;
 use numbers::command;
 pub use payloads::Part;
@@ -45,26 +46,28 @@ pub fn read_part<'a>(k: Kernel, record: &[u8], payloads: &'a [u8]) -> &'a [u8]
     &payloads[at..e]
 }
 
-// Any record, with the chart that LOAD loads, and the areas.
-pub fn command(
+// Any record, with the chart that LOAD loads, and the areas: the kernel after it, and its reply where the host keeps it.
+pub fn answer_to(
     k: Kernel,
     record: &[u8],
     chart: &[u8],
     payloads: &mut [u8],
     tables: &mut [u8],
     log: &mut [u8],
-) -> Answered
+    reply: &mut [u8; REPLY_BYTES],
+) -> Kernel
     requires { ⌜ Good k ⌝ }
-    ensures { λ r. ⌜ Good (r .kernel) ⌝ }
-    ensures { λ r. ⌜ answered r (areas (now (payloads .exit)) (now (tables .exit)) (now (log .exit)))
+    ensures { λ r. ⌜ Good r
+        × (told r (now (reply .exit)) (areas (now (payloads .exit)) (now (tables .exit)) (now (log .exit)))
         ≡ answerTo (stateOf k) (now («record» .entry)) (now (chart .entry))
-        (areas (now (payloads .entry)) (now (tables .entry)) (now (log .entry))) ⌝ }
+        (areas (now (payloads .entry)) (now (tables .entry)) (now (log .entry)))) ⌝ }
 {
     if record.len() != RECORD_BYTES {
-        return state::refuse(k, FORM);
+        *reply = reply::refused(FORM);
+        return k;
     }
     let n = record[0];
-    match n {
+    let a = match n {
         command::LOAD => charts::records::load_command(k, record, chart, tables),
         command::START => charts::records::start_command(k, record, tables),
         command::NEW => payloads::records::new_command(k, record, payloads),
@@ -87,5 +90,28 @@ pub fn command(
         command::RECALL => aside::records::recall_command(k, record),
         command::FLUSH => aside::records::flush_command(k, record),
         _ => state::refuse(k, FORM),
-    }
+    };
+    let bytes = a.reply;
+    *reply = bytes;
+    a.kernel
+}
+
+// The same, with the reply beside the kernel.
+pub fn command(
+    k: Kernel,
+    record: &[u8],
+    chart: &[u8],
+    payloads: &mut [u8],
+    tables: &mut [u8],
+    log: &mut [u8],
+) -> Answered
+    requires { ⌜ Good k ⌝ }
+    ensures { λ r. ⌜ Good (r .kernel) ⌝ }
+    ensures { λ r. ⌜ answered r (areas (now (payloads .exit)) (now (tables .exit)) (now (log .exit)))
+        ≡ answerTo (stateOf k) (now («record» .entry)) (now (chart .entry))
+        (areas (now (payloads .entry)) (now (tables .entry)) (now (log .entry))) ⌝ }
+{
+    let mut reply = [0u8; REPLY_BYTES];
+    let kernel = answer_to(k, record, chart, payloads, tables, log, &mut reply);
+    Answered { kernel, reply }
 }

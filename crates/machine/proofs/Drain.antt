@@ -10,23 +10,22 @@ use lib.Dec.{eqb}
 use lib.ListN.{length, getD, List·getD-eq-default}
 use lib.Seq.{set-out}
 use Rattle.ground.specs.Bools.{cond-pick, no-yes}
-use Rattle.ground.specs.Lists.{set-all}
 use Rattle.ground.specs.Range.{tab}
 use Rattle.ground.specs.Tab.{getD-tab}
 use Rattle.mail.specs.Box.{tookFront, queued}
 use Rattle.mail.specs.Laws.{queued-took}
 use Rattle.mail.specs.declared.Hand.{Hand}
 use Rattle.mail.specs.declared.Hand.the-variants.{Nothing, Block, Timer}
-use Rattle.pool.specs.Cell.{Cell, free, live, absent, atLast, generationOf, fewer}
-use Rattle.pool.specs.Laws.{gone-append}
-use Rattle.pool.specs.Row.{at, blocks, changed, generationAt, goneAll}
+use Rattle.pool.specs.Cell.{Cell, free, live, absent, atLast, generationOf, fewer, fewerBy}
+use Rattle.pool.specs.Laws.{gone-at, gone-length, gone-never, gone-once-more}
+use Rattle.pool.specs.Row.{at, blocks, changed, generationAt, goneAll, goneTimes, onceMore}
 use Rattle.machine.proofs.Counts.{fewer-none}
 use Rattle.machine.proofs.KeepsSteps.{Ready, ready, step-ready, coming-event, coming-live, row-within, step-keeps}
 use Rattle.machine.specs.Inv.{Inv, isLive, IsEvent}
 use Rattle.machine.specs.Reply.{lowest}
 use Rattle.machine.specs.Run.{Run, blockOf, begun, afterRun, seen, FitFor, onward, runFrom}
 use Rattle.machine.specs.State.{State, withCells}
-use Rattle.machine.specs.Steps.{toRun, coming, signalOf, handle₂, nextRow, stepTests, stepped, nextSays, letGoHand, frees, ended, Drained, logged, drainFrom}
+use Rattle.machine.specs.Steps.{toRun, coming, signalOf, handle₁, handle₂, nextRow, stepTests, stepped, nextSays, letGoHand, frees, ended, Drained, logged, drainFrom}
 
 -- Each step takes one entry.
 let-go-boxes : (h : Hand) (s : State) → letGoHand h s .boxes ≡ s .boxes
@@ -51,11 +50,7 @@ drain-falls (suc k) n s tables log =
     omega (arith, queued-took (s .boxes) (toRun s - 1) (r .mail), drain-falls k (n + 1) (ended (stepped s tables)) tables (logged s tables n log)))
     (λ t. refl)
 
--- Blocks that are still live have the generation that they had.
-abbrev pub SameLives : List Cell → List Cell → Type 0
-SameLives before now = (b : ℕ) → isLive (at now b) ≡ true → generationOf (at now b) ≡ generationOf (at before b)
-
-pub fewer-generation : (c : Cell) → isLive (fewer c) ≡ true → generationOf (fewer c) ≡ generationOf c
+fewer-generation : (c : Cell) → isLive (fewer c) ≡ true → generationOf (fewer c) ≡ generationOf c
 unfolding fewer isLive generationOf
 fewer-generation (free g) e = refl
 fewer-generation (live g zero) e = refl
@@ -63,19 +58,21 @@ fewer-generation (live g (suc zero)) e = no-yes e
 fewer-generation (live g (suc (suc n))) e = refl
 fewer-generation absent e = refl
 
-pub fewer-lives : (before now : List Cell) (b : ℕ) → SameLives before now → SameLives before (changed fewer now b)
-fewer-lives before now b h = go (decLt b (length now))
-  where
-    go : Dec (b < length now) → SameLives before (changed fewer now b)
-    go (yes l) =
-        set-all (λ k c. isLive c ≡ true → generationOf c ≡ generationOf (at before k)) now absent b _ l (λ k ne. h k)
-        (λ e. fewer-generation (at now b) e ∙ h b (fewer-none (at now b) e))
-    go (no n) = rw (set-out now b (fewer (at now b)) (omega arith)) h
+fewer-by-generation : (n : ℕ) (c : Cell) → isLive (fewerBy n c) ≡ true → generationOf (fewerBy n c) ≡ generationOf c
+unfolding fewerBy
+fewer-by-generation zero c e = refl
+fewer-by-generation (suc n) c e = fewer-generation (fewerBy n c) e ∙ fewer-by-generation n c (fewer-none (fewerBy n c) e)
 
-pub gone-lives : (before now : List Cell) (l : List ℕ) → SameLives before now → SameLives before (goneAll now l)
-unfolding goneAll
-gone-lives before now [] h = h
-gone-lives before now (b ∷ l) h = gone-lives before (changed fewer now b) l (fewer-lives before now b h)
+-- blocks that are still live have the generation that they had
+gone-lives : (s : List Cell) (times : List ℕ) (b : ℕ) → isLive (at (goneTimes s times) b) ≡ true → generationOf (at (goneTimes s times) b) ≡ generationOf (at s b)
+gone-lives s times b = go (decLt b (length s))
+  where
+    go : Dec (b < length s) → isLive (at (goneTimes s times) b) ≡ true → generationOf (at (goneTimes s times) b) ≡ generationOf (at s b)
+    go (yes l) e = rw (gone-at s times b l) (fewer-by-generation (getD times b 0) (at s b) (rw (gone-at s times b l) at e))
+    go (no n) e =
+        let there : at (goneTimes s times) b ≡ absent = List·getD-eq-default (goneTimes s times) absent (omega (arith, gone-length s times)) in
+        let here : at s b ≡ absent = List·getD-eq-default s absent (omega arith) in
+        rw (there, here) refl
 
 -- letting go of what is in hand, where 255 is no block
 pub let-go-is : (h : Hand) (s : State) → length (s .cells) ≤ 255 → letGoHand h s ≡ withCells (goneAll (s .cells) (blockOf h ∷ [])) s
@@ -89,6 +86,18 @@ unfolding frees atLast blockOf
 frees-is Nothing s l = rw (List·getD-eq-default (s .cells) absent l) refl
 frees-is (Block b) s l = refl
 frees-is (Timer t g) s l = rw (List·getD-eq-default (s .cells) absent l) refl
+
+-- An event that is let go once more, by the first byte of its handle: a timer's is no block, and nor is 255.
+once-let-go : (h : Hand) (s : List Cell) (times : List ℕ) → IsEvent h → length s ≡ blocks →
+    changed fewer (goneTimes s times) (blockOf h) ≡ goneTimes s (onceMore times (handle₁ h))
+unfolding IsEvent blockOf handle₁
+once-let-go Nothing s times e l = absurd e
+once-let-go (Block b) s times e l = sym (gone-once-more s times b (omega arith))
+once-let-go (Timer t g) s times e l =
+    outside 255 (omega arith) ∙ sym (outside (128 + t) (omega arith)) ∙ sym (gone-once-more s times (128 + t) (omega arith))
+  where
+    outside : (b : ℕ) → blocks ≤ b → changed fewer (goneTimes s times) b ≡ goneTimes s times
+    outside b m = set-out (goneTimes s times) b (fewer (at (goneTimes s times) b)) (omega (arith, gone-length s times))
 
 -- The run of a state s: what a step of it reads, the step, and at most k steps.
 abbrev pub gensOf : State → List ℕ
@@ -125,7 +134,7 @@ module _ (s : State) (tables : List ℕ) (x : Run) where
     same-handle Nothing e = refl
     same-handle (Block b) e =
         let l : b < blocks = rw e at (coming-event (afterRun s x) i r) in
-        gone-lives (s .cells) (s .cells) (x .gone) (λ k h. refl) b (coming-live (afterRun s x) b i r e)
+        gone-lives (s .cells) (x .times) b (coming-live (afterRun s x) b i r e)
         ∙ sym (getD-tab (generationAt (s .cells)) blocks b 0 l)
         ∙ sym (ap generationOf (getD-tab (λ k. free (getD (gensOf s) k 0)) blocks b absent l))
     same-handle (Timer t g) e = refl
@@ -135,11 +144,11 @@ module _ (s : State) (tables : List ℕ) (x : Run) where
     same-says = rw (same-signal _, same-handle _ refl, same-row) refl
 
     same-state : s .hand ≡ Nothing → ended (stepped (afterRun s x) tables) ≡ afterRun s (onwardOf s tables x)
-    unfolding ended stepped onward coming
+    unfolding ended stepped onward coming goneAll
     same-state e =
         rw (
           let-go-is (coming (afterRun s x)) (stepped (afterRun s x) tables) (omega (arith, i .store .cells-length)),
-          ← gone-append (s .cells) (x .gone) (blockOf (coming (afterRun s x)) ∷ []),
+          once-let-go (coming (afterRun s x)) (s .cells) (x .times) (coming-event (afterRun s x) i r) (sym (gone-length (s .cells) (x .times)) ∙ i .store .cells-length),
           same-row,
           e,
         )
@@ -181,7 +190,7 @@ module _ (s : State) (tables : List ℕ) (e : s .hand ≡ Nothing) where
       let r = ready (afterRun s x) (ne-eqb (toRun (afterRun s x)) 0 (λ z. omega arith)) in
       let w = row-within (afterRun s x) i r in
       let g = same-signal s tables x (coming (seenOf s x)) in
-      record { event = coming-event (afterRun s x) i r; signal = rw (← g) (w .signal); end = rw (← g) (w .end) }
+      record { event = coming-event (afterRun s x) i r; signal = rw (← g) (w .signal); rested = w .rest-low; end = rw (← g) (w .end) }
 
   pub run-fit : (k : ℕ) (x : Run) → Inv (afterRun s x) → FitFor (seenOf s (runOf s tables k x))
   unfolding runFrom
@@ -191,8 +200,11 @@ module _ (s : State) (tables : List ℕ) (e : s .hand ≡ Nothing) where
       (λ t. run-fit k (onwardOf s tables x) (run-keeps x i (eqb-true _ 0 t)))
       (λ t. fit x i)
 
+-- A run has let go of nothing when it begins.
+pub begun-is : (s : State) (log : List ℕ) → afterRun s (begun s log) ≡ s
+begun-is s log = rw (gone-never (s .cells)) refl
+
 -- For a state that is kept, with no step open.
 pub drain-run : (s : State) (tables log : List ℕ) (budget : ℕ) → Inv s → s .hand ≡ Nothing →
     drainFrom budget 0 s tables log ≡ drainedBy s (runOf s tables budget (begun s log))
-unfolding goneAll
-drain-run s tables log budget i e = drain-on s tables e budget (begun s log) i
+drain-run s tables log budget i e = rw (gone-never (s .cells)) at (drain-on s tables e budget (begun s log) (rw (gone-never (s .cells)) i))

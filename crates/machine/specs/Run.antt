@@ -1,7 +1,7 @@
 -- DRAIN's steps as a loop makes them that leaves the blocks alone, and lets go of all of them afterwards. That it does what DRAIN does
 -- is a law (proofs/Drain). FLUSH lets go of its blocks so too (proofs/Flush).
 use mathlib.Core.Bool.{cond}
-use mathlib.Core.List.{List, [], _∷_, _++_}
+use mathlib.Core.List.{List, []}
 use Prim.Native.Nat.{ℕ, zero, suc, _+_, _*_, _-_, _≤_, _<_}
 use lib.Dec.{eqb}
 use lib.ListN.{length, getD, set}
@@ -13,20 +13,20 @@ use Rattle.mail.specs.Entry.{handOf}
 use Rattle.mail.specs.declared.Hand.{Hand}
 use Rattle.mail.specs.declared.Hand.the-variants.{Nothing, Block, Timer}
 use Rattle.pool.specs.Cell.{free}
-use Rattle.pool.specs.Row.{blocks, goneAll}
+use Rattle.pool.specs.Row.{blocks, goneTimes, never, onceMore}
 use Rattle.machine.specs.Inv.{IsEvent, IsSignal}
 use Rattle.machine.specs.Numbers.{tableBytes}
 use Rattle.machine.specs.Reply.{lowest}
 use Rattle.machine.specs.State.{State, restOf, slotOf, withCells, withBoxes, withRests}
-use Rattle.machine.specs.Steps.{toRun, coming, signalOf, nextRow, stepTests, logged}
+use Rattle.machine.specs.Steps.{toRun, coming, signalOf, handle₁, nextRow, stepTests, logged}
 
--- What changes from step to step: how many there were, the mailboxes, the states of rest, the log, and the blocks to let go, in order.
+-- What changes from step to step: how many there were, the mailboxes, the states of rest, the log, and how often each block is let go.
 pub record Run : Type 0 where
   pub steps : ℕ
   pub boxes : List (List ℕ)
   pub rests : List ℕ
   pub log : List ℕ
-  pub gone : List ℕ
+  pub times : List ℕ
 
 -- The block that an event in hand is; 255, which is no block, for a timer.
 unfoldable pub blockOf : Hand → ℕ
@@ -43,10 +43,10 @@ blocksIn l = firstBlocks l (length l)
 
 -- A run begins in a state, and leaves one: all that it does not speak of is as it was.
 abbrev pub begun : State → List ℕ → Run
-begun s log = record { steps = 0; boxes = s .boxes; rests = s .objects .rests; log = log; gone = [] }
+begun s log = record { steps = 0; boxes = s .boxes; rests = s .objects .rests; log = log; times = never }
 
 abbrev pub afterRun : State → Run → State
-afterRun s x = withCells (goneAll (s .cells) (x .gone)) (withBoxes (x .boxes) (withRests (x .rests) s))
+afterRun s x = withCells (goneTimes (s .cells) (x .times)) (withBoxes (x .boxes) (withRests (x .rests) s))
 
 -- What a step reads, over the generations, the signals and the slots of the start: a state with all else empty.
 abbrev pub seen : List ℕ → List ℕ → List ℕ → Run → State
@@ -63,10 +63,12 @@ seen gens signals seats x = record {
   hand = Nothing;
 }
 
--- What a step needs of the state that it is taken in: what comes is an event with a signal, and its row lies in the tables.
+-- What a step needs of the state that it is taken in: what comes is an event with a signal, the object rests in a state, and the row for
+-- both lies in the tables.
 pub record Fit (s : State) : Type 0 where
   pub event : IsEvent (coming s)
   pub signal : IsSignal (signalOf s (coming s))
+  pub rested : 1 ≤ restOf s (toRun s)
   pub end : slotSize * slotOf s (toRun s) + place (restOf s (toRun s)) (signalOf s (coming s)) + rowSize ≤ tableBytes
 
 -- It is so if anything is queued.
@@ -84,7 +86,7 @@ module _ (gens signals seats tables : List ℕ) where
     boxes = tookFront (x .boxes) (toRun (seen gens signals seats x) - 1);
     rests = set (x .rests) (toRun (seen gens signals seats x) - 1) (getD (nextRow (seen gens signals seats x) tables) 0 0);
     log = logged (seen gens signals seats x) tables (x .steps) (x .log);
-    gone = x .gone ++ (blockOf (coming (seen gens signals seats x)) ∷ []);
+    times = onceMore (x .times) (handle₁ (coming (seen gens signals seats x)));
   }
 
   -- at most k steps more

@@ -1,16 +1,15 @@
 -- What a store does to one mailbox's ring.
 use mathlib.Core.List.{List, []}
 use mathlib.Core.Path.{_≡_, refl, ap}
-use Prim.Native.Nat.{ℕ, zero, suc, _+_, _*_, _-_, _<_, _≤_}
-use native.Mathlib.Nat.{not-suc-le-zero}
+use Prim.Native.Nat.{ℕ, suc, _+_, _*_, _-_, _<_, _≤_}
 use native.Mathlib.Numerals.{add-one}
 use native.Mathlib.Omega.{arith}
-use lib.ListN.{length, getD, set}
-use lib.Seq.{getD-set-same, getD-set-other}
+use lib.ListN.{length, getD, set, drop, length-drop}
+use lib.Seq.{ext-getD, getD-drop, getD-set-same, getD-set-other}
 use Rattle.ground.specs.Range.{tab, tabFrom}
-use Rattle.ground.specs.Tab.{getD-tab, tab-ext, tab-cons, tab-snoc}
-use Rattle.mail.specs.Box.{room, behind, ahead, rest}
-use Rattle.mail.specs.Inside.{placeOf, oneBack, oneOn, entryAt, ring}
+use Rattle.ground.specs.Tab.{length-tab, getD-tab, tab-ext, tab-cons, tab-snoc}
+use Rattle.mail.specs.Box.{room, behind, ahead}
+use Rattle.mail.specs.Inside.{placeOf, oneBack, onBy, entryAt, ring}
 
 -- the ring of another object has no part in it
 pub ring-other : (pl : List ℕ) (q h i e k h' n : ℕ) → (k ≡ q → ⊥) → ring (set pl (placeOf q h i) e) k h' n ≡ ring pl k h' n
@@ -38,17 +37,23 @@ module _ (pl : List ℕ) (q h n : ℕ) where
         rw on (getD-set-other pl (placeOf q h' 0) (placeOf q h i) e 0 (λ z. omega arith))) in
         rw (add-one, tab-cons, new, old) refl
 
+  ring-length : length (ring pl q h n) ≡ n
+  unfolding ring
+  ring-length = length-tab (entryAt pl q h) n
+
   pub ring-entry : (i : ℕ) → i < n → getD (ring pl q h n) i 0 ≡ entryAt pl q h i
   unfolding ring
   ring-entry i k = getD-tab (entryAt pl q h) n i 0 k
 
-pub ring-rest : (pl : List ℕ) (q h n : ℕ) → 0 < n → ring pl q (oneOn h) (n - 1) ≡ rest (ring pl q h n)
-unfolding ring rest
-ring-rest pl q h zero l = absurd (not-suc-le-zero l)
-ring-rest pl q h (suc n) l =
-    let z : suc n - 1 ≡ n = omega arith in
-    rw (z, tab-cons)
-    (tab-ext _ _ n (λ i j. let on : placeOf q (oneOn h) i ≡ placeOf q h (suc i) = omega arith in ap (λ (x : ℕ). getD pl x 0) on))
+-- the first k entries leave where the head moves k places on
+pub ring-drop : (pl : List ℕ) (q h n k : ℕ) → ring pl q (onBy h k) (n - k) ≡ drop k (ring pl q h n)
+ring-drop pl q h n k = ext-getD 0 _ _ (rw (ring-length, length-drop, ring-length) refl) each
+  where
+    each : (i : ℕ) → i < length (ring pl q (onBy h k) (n - k)) → getD (ring pl q (onBy h k) (n - k)) i 0 ≡ getD (drop k (ring pl q h n)) i 0
+    each i l =
+        let left : i < n - k = omega (arith, ring-length pl q (onBy h k) (n - k)) in
+        let on : placeOf q (onBy h k) i ≡ placeOf q h (k + i) = omega arith in
+        rw (getD-drop, ring-entry pl q (onBy h k) (n - k) i left, ring-entry pl q h n (k + i) (omega arith)) (ap (λ (x : ℕ). getD pl x 0) on)
 
 pub ring-none : (pl : List ℕ) (q h : ℕ) → ring pl q h 0 ≡ []
 unfolding ring tabFrom

@@ -3,12 +3,12 @@ use mathlib.Core.List.{List, []}
 use mathlib.Core.Path.{_≡_, refl, sym, ap, _∙_}
 use Prim.Native.Nat.{ℕ, _+_, _-_, _<_}
 use native.Mathlib.Omega.{arith}
-use lib.ListN.{length, getD, set, length-set}
+use lib.ListN.{length, getD, set, drop, length-set}
 use lib.Seq.{getD-set-same, getD-set-other}
 use Rattle.ground.specs.Tab.{getD-tab, tab-set}
-use Rattle.mail.specs.Box.{room, boxAt, front, changed, behind, ahead, rest, bare, pushBack, pushFront, tookFront, emptied}
-use Rattle.mail.specs.Inside.{placeOf, oneBack, oneOn, entryAt, boxOf, boxes, Mail, Holds}
-use Rattle.mail.proofs.Ring.{ring-other, ring-back, ring-front, ring-entry, ring-rest, ring-none}
+use Rattle.mail.specs.Box.{room, boxAt, front, changed, behind, ahead, rest, bare, pushBack, pushFront, tookFirst, tookFront, emptied}
+use Rattle.mail.specs.Inside.{placeOf, oneBack, onBy, entryAt, boxOf, boxes, Mail, Holds}
+use Rattle.mail.proofs.Ring.{ring-other, ring-back, ring-front, ring-entry, ring-drop, ring-none}
 
 module _ (pl hs cs : List ℕ) (q : ℕ) (l : q < length cs) where
   box-at : boxAt (boxes pl hs cs) q ≡ boxOf pl hs cs q
@@ -54,17 +54,20 @@ module _ (pl hs cs : List ℕ) (q : ℕ) (l : q < length cs) where
           (λ k ne. rw (getD-set-other hs q k _ 0 ne, getD-set-other cs q k _ 0 ne) (ring-other pl q _ _ e k _ _ ne));
     }
 
-    pub took-front : 0 < getD cs q 0 →
-        Holds pl (set hs q (oneOn (getD hs q 0))) (set cs q (getD cs q 0 - 1)) (tookFront (boxes pl hs cs) q)
+    pub took-first : (n : ℕ) → Holds pl (set hs q (onBy (getD hs q 0) n)) (set cs q (getD cs q 0 - n)) (tookFirst (boxes pl hs cs) q n)
     unfolding boxOf
-    took-front k = record {
+    took-first n = record {
       mail = record { places = simp length-set (m .places); heads = simp length-set (m .heads) };
       are =
-          stored rest pl _ _
-          (rw (getD-set-same hs q (oneOn (getD hs q 0)) 0 (omega arith), getD-set-same cs q (getD cs q 0 - 1) 0 (omega arith))
-          (ring-rest pl q (getD hs q 0) (getD cs q 0) k))
+          stored (drop n) pl _ _
+          (rw (getD-set-same hs q (onBy (getD hs q 0) n) 0 (omega arith), getD-set-same cs q (getD cs q 0 - n) 0 (omega arith))
+          (ring-drop pl q (getD hs q 0) (getD cs q 0) n))
           (λ k ne. rw (getD-set-other hs q k _ 0 ne, getD-set-other cs q k _ 0 ne) refl);
     }
+
+    pub took-front : Holds pl (set hs q (onBy (getD hs q 0) 1)) (set cs q (getD cs q 0 - 1)) (tookFront (boxes pl hs cs) q)
+    unfolding rest
+    took-front = took-first 1
 
     pub all-left : Holds pl hs (set cs q 0) (emptied (boxes pl hs cs) q)
     unfolding boxOf bare

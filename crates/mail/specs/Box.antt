@@ -42,6 +42,10 @@ pushFront bs q e = changed (ahead e) bs q
 abbrev pub tookFront : List (List ℕ) → ℕ → List (List ℕ)
 tookFront bs q = changed rest bs q
 
+-- The first n entries leave mailbox q.
+abbrev pub tookFirst : List (List ℕ) → ℕ → ℕ → List (List ℕ)
+tookFirst bs q n = changed (drop n) bs q
+
 abbrev pub emptied : List (List ℕ) → ℕ → List (List ℕ)
 emptied bs q = changed bare bs q
 

@@ -10,12 +10,12 @@ use Rattle.mail.specs.Box.{room}
 abbrev pub placeOf : ℕ → ℕ → ℕ → ℕ
 placeOf q h i = room * q + (h + i) % room
 
--- From one place of a ring to the one before it, and to the next.
+-- From one place of a ring to the one before it, and so many places on.
 abbrev pub oneBack : ℕ → ℕ
 oneBack h = (h + (room - 1)) % room
 
-abbrev pub oneOn : ℕ → ℕ
-oneOn h = (h + 1) % room
+abbrev pub onBy : ℕ → ℕ → ℕ
+onBy h n = (h + n) % room
 
 abbrev pub entryAt : List ℕ → ℕ → ℕ → ℕ → ℕ
 entryAt places q h i = getD places (placeOf q h i) 0

@@ -5,16 +5,16 @@ use mathlib.Core.Logic.{⊎-elim}
 use mathlib.Core.Path.{_≡_, refl, sym, ap}
 use Prim.Native.Nat.{ℕ, zero, suc, _+_, _*_, _-_, _/_, _%_, _<_, _≤_}
 use native.Mathlib.Decide.{decLt}
-use native.Mathlib.Nat.{not-suc-le-zero, le-of-suc-le-suc, eq-or-lt-of-le, mul-suc}
+use native.Mathlib.Nat.{add-zero, not-suc-le-zero, le-of-suc-le-suc, eq-or-lt-of-le, mul-suc}
 use native.Mathlib.Numerals.{add-one}
 use native.Mathlib.Omega.{arith}
 use borrow.Author.Tests.{eqb-true, eqb-false, eq-eqb, ne-eqb, lt-ltb, le-ltb}
 use lib.Dec.{eqb, ltb}
-use lib.ListN.{length, getD, set, length-set, length-append, length-drop, List·getD-append, List·getD-eq-default}
-use lib.Seq.{getD-set-same, getD-set-other, getD-append-seam, set-out}
+use lib.ListN.{length, getD, set, drop, length-set, length-append, length-drop, List·getD-append, List·getD-eq-default}
+use lib.Seq.{drop-drop, getD-append-seam, getD-drop, getD-set-other, getD-set-same, set-getD, set-out, set-set}
 use Rattle.ground.specs.Bools.{cond-pick}
 use Rattle.ground.specs.Lists.{set-all}
-use Rattle.mail.specs.Box.{boxAt, front, changed, behind, ahead, rest, bare, pushBack, pushFront, tookFront, emptied}
+use Rattle.mail.specs.Box.{boxAt, front, changed, behind, ahead, rest, bare, pushBack, pushFront, tookFirst, tookFront, emptied}
 use Rattle.mail.specs.Box.{highestOf, highest, total, one, timesIn, queued, occurrences}
 use Rattle.mail.specs.Entry.{firstTimer, signals, entryOf, handOf, timerOf}
 use Rattle.mail.specs.declared.Hand.the-variants.{Nothing, Block, Timer}
@@ -45,6 +45,28 @@ module _ (e : ℕ) (b : List ℕ) where
 pub rest-length : (b : List ℕ) → length (rest b) ≡ length b - 1
 unfolding rest
 rest-length b = length-drop 1 b
+
+module _ (bs : List (List ℕ)) (q : ℕ) where
+  -- the first entries leave: none of them, one more of them
+  pub first-none : tookFirst bs q 0 ≡ bs
+  unfolding changed
+  first-none = set-getD bs q []
+
+  pub first-more : (i : ℕ) → tookFront (tookFirst bs q i) q ≡ tookFirst bs q (i + 1)
+  unfolding changed rest
+  first-more i = go (decLt q (length bs))
+    where
+      go : Dec (q < length bs) → tookFront (tookFirst bs q i) q ≡ tookFirst bs q (i + 1)
+      go (yes l) = rw (set-set, getD-set-same bs q (drop i (boxAt bs q)) [] l, drop-drop) refl
+      go (no l) = rw (set-set, set-out bs q _ (omega arith), set-out bs q _ (omega arith)) refl
+
+  -- the front and the length of what is left
+  module _ (l : q < length bs) (i : ℕ) where
+    pub first-front : front (tookFirst bs q i) q ≡ getD (boxAt bs q) i 0
+    first-front = rw (changed-here (drop i) bs q l, getD-drop, add-zero) refl
+
+    pub first-length : length (boxAt (tookFirst bs q i) q) ≡ length (boxAt bs q) - i
+    first-length = rw (changed-here (drop i) bs q l, length-drop) refl
 
 pub bare-length : (b : List ℕ) → length (bare b) ≡ 0
 unfolding bare

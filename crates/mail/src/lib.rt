@@ -5,7 +5,7 @@ ghost use mathlib.Core.List.{List};
 ghost use mathlib.Core.Path.{_≡_};
 ghost use Prim.Native.Nat.{ℕ, _+_, _*_, _-_, _^_, _<_, _≤_};
 ghost use lib.ListN.{getD, length, set};
-ghost use Rattle.mail.specs.Box.{boxAt, emptied, front, highest, pushBack, pushFront, room, tookFront};
+ghost use Rattle.mail.specs.Box.{boxAt, emptied, front, highest, pushBack, pushFront, room, tookFirst, tookFront};
 ghost use Rattle.mail.specs.Entry.{entryOf, handOf};
 ghost use Rattle.mail.specs.Inside.{placeOf, boxes, Mail, Holds};
 use ground::byte_at;
@@ -94,7 +94,7 @@ pub fn front(places: &[u16], heads: &[u8], counts: &[u8], q: usize) -> u16
 // Entry i, counted from the front.
 pub fn entry(places: &[u16], heads: &[u8], counts: &[u8], q: usize, i: usize) -> u16
     requires { ⌜ Mail (now places) (now heads) (now counts) ⌝ }
-    requires { ⌜ (q < length (now counts)) × (i < getD (now counts) q 0) × (i < room) ⌝ }
+    requires { ⌜ (q < length (now counts)) × (i < getD (now counts) q 0) × (i < 256) ⌝ }
     ensures { λ r. ⌜ r ≡ getD (boxAt (boxes (now (places .entry)) (now (heads .entry)) (now (counts .entry))) q) i 0 ⌝ }
 {
     places[place(q, wide(heads[q]), i)]
@@ -107,6 +107,18 @@ pub fn empty(counts: &mut [u8], q: usize)
         Holds places heads (now (counts .exit)) (emptied (boxes places heads (now (counts .entry))) q)) ⌝ }
 {
     counts[q] = 0;
+}
+
+// The first n entries leave. The places have no part in it.
+pub fn leave(heads: &mut [u8], counts: &mut [u8], q: usize, n: usize)
+    requires { ⌜ (q < length (now counts)) × (length (now heads) ≡ length (now counts)) × (n ≤ getD (now counts) q 0) ⌝ }
+    ensures { λ r. ⌜ ((places : List ℕ) → Mail places (now (heads .entry)) (now (counts .entry)) →
+        Holds places (now (heads .exit)) (now (counts .exit)) (tookFirst (boxes places (now (heads .entry)) (now (counts .entry))) q n)) ⌝ }
+{
+    let left = wide(counts[q]) - n;
+    let h = wide(heads[q]);
+    heads[q] = ((h + n) % PLACES) as u8;
+    counts[q] = left as u8;
 }
 
 // The highest object with mail, counted from 1; 0 where nothing is queued. The counts alone say it.

@@ -30,6 +30,9 @@ pub const TIMERS: usize = 16;
 
 pub const BLOCKS: usize = 56;
 
+// The first byte of an event's handle has one of so many values: a block, or 128 and a timer.
+pub const FIRST_BYTES: usize = 256;
+
 // The blocks before 32 hold 16 bytes, those before 48 hold 32, the others 64.
 pub const SMALL_BYTES: usize = 16;
 

@@ -1,11 +1,12 @@
 -- What each operation makes of one block: of any, of a live one by its count.
 use mathlib.Core.Bool.{Bool, true, false}
-use mathlib.Core.Path.{_≡_, refl}
+use mathlib.Core.Path.{_≡_, refl, ap, _∙_}
 use Prim.Native.Nat.{ℕ, zero, suc, _+_, _-_, _<_, _≤_}
+use native.Mathlib.Decide.{decLt}
 use native.Mathlib.Omega.{arith}
 use borrow.Author.Tests.{le-leb, lt-leb, ne-eqb}
 use lib.Dec.{eqb·suc-zero}
-use Rattle.pool.specs.Cell.{free, live, isFree, isNew, atLast, generationOf, handedOut, more, fewer, dropped, mostReferences}
+use Rattle.pool.specs.Cell.{Cell, free, live, isFree, isNew, atLast, generationOf, nextGeneration, handedOut, more, fewer, fewerBy, dropped, mostReferences}
 use Rattle.pool.specs.Inside.{cellOf, freed}
 
 module _ (g n : ℕ) (t : Bool) where
@@ -55,6 +56,32 @@ unfolding fewer atLast
 fewer-one g zero nz ne = absurd (nz refl)
 fewer-one g (suc zero) nz ne = absurd (ne refl)
 fewer-one g (suc (suc n)) nz ne = let e : suc (suc n) - 1 ≡ suc n = omega arith in (rw e refl, ne-eqb (suc (suc n)) 1 ne)
+
+-- Letting go several times: never, of a block that stays as it is, of some of the references, of all of them.
+pub by-none : (c : Cell) (t : ℕ) → t ≡ 0 → fewerBy t c ≡ c
+unfolding fewerBy
+by-none c t e = rw e refl
+
+pub by-still : (c : Cell) → fewer c ≡ c → (t : ℕ) → fewerBy t c ≡ c
+unfolding fewerBy
+by-still c e zero = refl
+by-still c e (suc t) = ap fewer (by-still c e t) ∙ e
+
+pub by-some : (g n t : ℕ) → t < n → fewerBy t (live g n) ≡ live g (n - t)
+unfolding fewerBy
+by-some g n zero h = ap (live g) (omega arith)
+by-some g n (suc t) h =
+    let one = fewer-one g (n - t) (λ z. omega arith) (λ z. omega arith) in
+    ap fewer (by-some g n t (omega arith)) ∙ one .0 ∙ ap (live g) (omega arith)
+
+pub by-all : (g n t : ℕ) → (n ≡ 0 → ⊥) → n ≤ t → fewerBy t (live g n) ≡ free (nextGeneration g)
+unfolding fewerBy fewer
+by-all g n zero nz h = absurd (nz (omega arith))
+by-all g n (suc t) nz h = go (decLt t n) (by-all g n t nz)
+  where
+    go : Dec (t < n) → (n ≤ t → fewerBy t (live g n) ≡ free (nextGeneration g)) → fewer (fewerBy t (live g n)) ≡ free (nextGeneration g)
+    go (yes k) sooner = let last : n - t ≡ 1 = omega arith in ap fewer (by-some g n t k) ∙ rw last refl
+    go (no k) sooner = ap fewer (sooner (omega arith))
 
 pub dropped-new : (g n : ℕ) → n ≡ 0 → (freed (live g n) ≡ dropped (live g n)) × (isNew (live g n) ≡ true)
 unfolding freed dropped isNew generationOf

@@ -1,10 +1,10 @@
 -- How a pool's fields stand for a row and for marks. For this crate's proofs alone: no other crate names this file.
-use mathlib.Core.Bool.{Bool, true, false}
+use mathlib.Core.Bool.{Bool, true, false, cond}
 use mathlib.Core.List.{List}
 use mathlib.Core.Path.{_≡_}
 use Prim.Native.Nat.{ℕ}
 use lib.ListN.{length, getD}
-use Rattle.bits.specs.Members.{members}
+use Rattle.bits.specs.Members.{members, put}
 use Rattle.ground.specs.Range.{tab}
 use Rattle.pool.specs.Cell.{Cell, free, live, generationOf, nextGeneration}
 use Rattle.pool.specs.Row.{blocks}
@@ -30,6 +30,10 @@ marks p = p .marks
 -- What freeing makes of any block.
 unfoldable pub freed : Cell → Cell
 freed c = free (nextGeneration (generationOf c))
+
+-- The set with block b where that is freed.
+unfoldable pub freedIf : Bool → ℕ → (ℕ → Bool) → ℕ → Bool
+freedIf t b frees = cond t (put b true frees) frees
 
 -- The arrays have their lengths.
 pub record Sized (gens counts : List ℕ) : Type 0 where

@@ -1,21 +1,23 @@
 // The block pool: 56 blocks in three pools, each with a generation and a count of references, the set of those that are free, and the
 // mark of each pool, its least number of free blocks so far. What stands above relies on the promises alone, which speak of `cells p`,
 // the row of blocks that a pool stands for, and of `marks p`.
+ghost use mathlib.Core.Bool.{Bool};
 ghost use mathlib.Core.Path.{_≡_};
 ghost use mathlib.Core.List.{List};
 ghost use Prim.Native.Nat.{ℕ, _-_, _<_, _≤_, min};
 ghost use lib.ListN.{length};
 ghost use Rattle.bits.specs.Members.{members, width};
 ghost use Rattle.ground.specs.Range.{countFrom, tab};
-ghost use Rattle.pool.specs.Cell.{isNew, atLast, nextGeneration, more, fewer, dropped};
-ghost use Rattle.pool.specs.Inside.{cells, freed, marks, rowOf, Sized};
+ghost use Rattle.pool.specs.Cell.{isNew, atLast, nextGeneration, more, fewer, fewerBy, dropped};
+ghost use Rattle.pool.specs.Inside.{cells, freed, freedIf, marks, rowOf, Sized};
 ghost use Rattle.pool.specs.Mark.{freshMarks};
 ghost use Rattle.pool.specs.Promise.{Takes, Frees};
-ghost use Rattle.pool.specs.Row.{changed, freshRow, generationAt, staleAt, poolFor, goneAll, blocks};
+ghost use Rattle.pool.specs.Row.{changed, freshRow, generationAt, staleAt, poolFor, goneAll, goneTimes, blocks};
 use ground::byte_at;
 use ground::least;
 use ground::wide;
 use numbers::BLOCKS;
+use numbers::FIRST_BYTES;
 use numbers::LARGE;
 use numbers::LARGE_BYTES;
 use numbers::MIDDLE;
@@ -247,6 +249,61 @@ pub fn let_go_all(p: Pool, list: &[u8]) -> Pool
     while i < list.len() {
         let_go_in(&mut gens, &mut counts, &mut free, wide(list[i]));
         i += 1;
+    }
+    q.gens = gens;
+    q.counts = counts;
+    q.free = free;
+    q
+}
+
+// So many references fewer in the parts of a pool: whether that frees the block, which is then a generation on.
+fn let_go_some(
+    gens: &mut [u8; BLOCKS],
+    counts: &mut [u16; BLOCKS],
+    free: u64,
+    b: usize,
+    times: u8,
+) -> bool
+    requires { ⌜ Sized (now gens) (now counts) × (b < blocks) ⌝ }
+    ensures { λ r. ⌜ ((frees : ℕ → Bool) → frees b ≡ members free b →
+        rowOf (now (gens .exit)) (now (counts .exit)) (freedIf r b frees) ≡ changed (fewerBy times) (rowOf (now (gens .entry)) (now (counts .entry)) frees) b) ⌝ }
+    ensures { λ _. ⌜ Sized (now (gens .exit)) (now (counts .exit)) ⌝ }
+{
+    if times == 0 {
+        return false;
+    }
+    if bits::has(free, b) {
+        return false;
+    }
+    let held = counts[b];
+    let fewer = times as u16;
+    if fewer < held {
+        counts[b] = held - fewer;
+        return false;
+    }
+    if held == NEW {
+        return false;
+    }
+    gens[b] = next_generation(gens[b]);
+    true
+}
+
+// Each block is let go as often as a list says.
+pub fn let_go_each(p: Pool, times: &[u8; FIRST_BYTES]) -> Pool
+    ensures { λ r. ⌜ cells r ≡ goneTimes (cells p) (now (times .entry)) ⌝ }
+    ensures { λ r. ⌜ marks r ≡ marks p ⌝ }
+{
+    let mut q = p;
+    let mut gens = q.gens;
+    let mut counts = q.counts;
+    let was = q.free;
+    let mut free = was;
+    let mut b = 0;
+    while b < BLOCKS {
+        if let_go_some(&mut gens, &mut counts, was, b, times[b]) {
+            free = bits::with(free, b);
+        }
+        b += 1;
     }
     q.gens = gens;
     q.counts = counts;

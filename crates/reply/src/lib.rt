@@ -6,12 +6,12 @@ ghost use Rattle.chart.specs.Numbers.{rowSize};
 ghost use Rattle.machine.specs.Numbers.{mostBytes, signalPlaces};
 ghost use Rattle.machine.specs.Reply.{no, badChart, replyOf};
 ghost use Rattle.machine.specs.Reply as said;
+use ground::copy;
 use ground::fill;
 use ground::least;
 use numbers::ACTIONS_IN_ROW;
 use numbers::MOST_ACTIONS;
 use numbers::REPLY_BYTES;
-use numbers::ROW_BYTES;
 use numbers::answer::CHART;
 
 const NUMBER: usize = 0;
@@ -74,9 +74,9 @@ pub fn ran(p: u8, g: u8, v: u8, w: u8, row: &[u8]) -> [u8; REPLY_BYTES]
     ensures { λ r. ⌜ r ≡ replyOf (said.ran p g v w (now (row .entry))) ⌝ }
 {
     let mut r = [0u8; REPLY_BYTES];
-    fill(
+    copy(
         &mut r[ACTIONS..REPLY_BYTES],
-        &row[ACTIONS_IN_ROW..ROW_BYTES],
+        &row[ACTIONS_IN_ROW..ACTIONS_IN_ROW + MOST_ACTIONS],
     );
     r[OBJECT] = p;
     r[OUTCOME] = row[1] * 32 + g;

@@ -8,12 +8,11 @@ use borrow.Author.Tests.{eqb-true, eqb-false, not-false}
 use lib.Dec.{eqb}
 use lib.ListN.{length, getD}
 use Rattle.chart.specs.Flat.{sound}
-use Rattle.drain.proofs.Laws.{hand-is, signal-is}
-use Rattle.drain.specs.Turn.{Generations, Looks, runAt}
+use Rattle.drain.specs.Lent.{Generations, Looks, runAt}
 use Rattle.drain.specs.declared.Coming.{Coming}
 use Rattle.ground.specs.Range.{tab}
 use Rattle.ground.specs.Tab.{getD-tab}
-use Rattle.machine.proofs.Drain.{let-go-is, frees-is, drainedBy, run-fit, drain-run}
+use Rattle.machine.proofs.Drain.{begun-is, let-go-is, frees-is, drainedBy, run-fit, drain-run}
 use Rattle.machine.proofs.KeepsSteps.{closed-hand, ready, coming-event, row-within}
 use Rattle.machine.proofs.Run.{run-most}
 use Rattle.machine.proofs.Tests.{NoneHolds, none-holds}
@@ -22,13 +21,12 @@ use Rattle.machine.specs.Inv.{Inv}
 use Rattle.machine.specs.Numbers.{tableBytes, logBytes}
 use Rattle.machine.specs.Reply.{FORM, AREA, BUSY, IDLE, TABLE, Areas, answer, ran, lowest}
 use Rattle.machine.specs.Run.{Run, Fit, FitRun, begun, blockOf, runFrom}
-use Rattle.machine.specs.State.{State, restOf, slotOf, isOpen, withCells, withHand}
-use Rattle.machine.specs.Steps.{toRun, coming, handle₁, handle₂, nextRow, nextSays, nextTests, stepTests, stepped, ended, frees, drainFrom, drainTests}
-use Rattle.mail.specs.Box.{front}
+use Rattle.machine.specs.State.{State, isOpen, withCells, withHand}
+use Rattle.machine.specs.Steps.{toRun, coming, nextRow, nextSays, nextTests, stepTests, stepped, ended, frees, drainFrom, drainTests}
 use Rattle.mail.specs.Entry.{handOf}
 use Rattle.mail.specs.declared.Hand.the-variants.{Nothing}
 use Rattle.pool.specs.Cell.{fewer, atLast}
-use Rattle.pool.specs.Row.{at, blocks, changed, generationAt, goneAll}
+use Rattle.pool.specs.Row.{at, blocks, changed, generationAt, goneAll, never}
 use Rattle.pool.specs.View.{cells, cells-length}
 use Rattle.state.specs.View.{stateOf}
 use Rattle.state.specs.declared.Kernel.{Kernel}
@@ -72,16 +70,14 @@ module _ (spoilt : Bool) (s : State) (tables : List ℕ) where
     fit-next i =
         let r = ready s (none .1 .1 .1 .0) in
         let w = row-within s i r in
-        record { event = coming-event s i r; signal = w .signal; end = w .end }
+        record { event = coming-event s i r; signal = w .signal; rested = w .rest-low; end = w .end }
 
 -- The step that NEXT takes.
-module _ (k : Kernel) (tables : List ℕ) (p : ℕ) (e : p ≡ toRun (stateOf k)) (l : Coming) where
-  pub step-is : Looks (stateOf k) (front (stateOf k .boxes) (p - 1)) (restOf (stateOf k) p) (slotOf (stateOf k) p) l → (row : List ℕ) → row ≡ nextRow (stateOf k) tables → (z : Areas) →
-      answer (afterStep (stateOf k) p (getD row 0 0))
-      (ran p (l .signal) (handle₁ (l .hand)) (handle₂ (stateOf k) (l .hand)) row) z
-      ≡ answer (stepped (stateOf k) tables) (nextSays (stateOf k) tables) z
-  unfolding stepped nextSays coming
-  step-is w row r z = rw (hand-is (stateOf k) tables p e l w, signal-is (stateOf k) tables p e l w, r, e) refl
+pub step-is : (k : Kernel) (tables : List ℕ) (p : ℕ) → p ≡ toRun (stateOf k) → (l : Coming) → Looks (stateOf k) (coming (stateOf k)) l →
+    (row : List ℕ) → row ≡ nextRow (stateOf k) tables → (z : Areas) →
+    answer (afterStep (stateOf k) p (getD row 0 0)) (ran p (l .signal) (l .first) (l .second) row) z ≡ answer (stepped (stateOf k) tables) (nextSays (stateOf k) tables) z
+unfolding stepped nextSays coming
+step-is k tables p e l w row r z = rw (w .signal, w .first, w .second, r, e) refl
 
 -- END, by the block in hand.
 module _ (k : Kernel) where
@@ -108,11 +104,11 @@ module _ (spoilt : Bool) (s : State) (tables log : List ℕ) where
 -- DRAIN, as a run over the arrays: each of its states is fit for a step, and what it comes to is what DRAIN does.
 module _ (k : Kernel) (gens tables log : List ℕ) (e : gens ≡ tab (generationAt (cells (k .pool))) blocks) (h : handOf (k .hand) ≡ Nothing) (i : Inv (stateOf k)) where
   abbrev start : Run
-  start = runAt (k .places) (k .heads) (k .counts) (k .rests) [] log 0
+  start = runAt (k .places) (k .heads) (k .counts) (k .rests) never log 0
 
   pub drain-fit : FitRun gens (k .signals) (k .seats) tables start
-  unfolding stateOf goneAll
-  drain-fit = rw e (λ n. run-fit (stateOf k) tables h n (begun (stateOf k) log) i)
+  unfolding stateOf
+  drain-fit = rw e (λ n. run-fit (stateOf k) tables h n (begun (stateOf k) log) (rw (begun-is (stateOf k) log) i))
 
   module _ (budget : ℕ) (x : Run) (r : x ≡ runFrom gens (k .signals) (k .seats) tables budget start) where
     pub drained-is : drainFrom budget 0 (stateOf k) tables log ≡ drainedBy (stateOf k) x

@@ -3,26 +3,29 @@ pub mod records;
 
 ghost use mathlib.Core.List.{List};
 ghost use mathlib.Core.Path.{_≡_};
-ghost use Prim.Native.Nat.{ℕ, _-_, _<_, _≤_};
+ghost use Prim.Native.Nat.{ℕ, _+_, _*_, _-_, _<_, _≤_};
 ghost use lib.ListN.{getD, length};
+ghost use Rattle.chart.specs.Flat.{place};
+ghost use Rattle.chart.specs.Numbers.{firstSignal, slotSize};
 ghost use Rattle.machine.specs.Numbers.{tableBytes, logBytes, objects};
 ghost use Rattle.machine.specs.Reply.{Areas, answer, done, ran};
 ghost use Rattle.machine.specs.Run.{Fit};
 ghost use Rattle.machine.specs.State.{restOf, slotOf};
 ghost use Rattle.machine.specs.Steps as machine;
-ghost use Rattle.machine.specs.Steps.{drainDone, drainFrom, ended, frees, handle₁, handle₂, toRun};
-ghost use Rattle.mail.specs.Box.{front, one};
+ghost use Rattle.machine.specs.Steps.{drainDone, drainFrom, ended, frees, toRun};
+ghost use Rattle.mail.specs.Box.{one};
 ghost use Rattle.mail.specs.Entry.{handOf};
 ghost use Rattle.mail.specs.declared.Hand.the-variants.{Nothing};
-ghost use Rattle.drain.specs.Turn.{Looks, Runs};
+ghost use Rattle.drain.specs.Lent.{Looks, Runs};
 ghost use Rattle.state.specs.View.{answered, areas, Good, stateOf};
 ghost use Rattle.steps.specs.Step.{afterStep};
 use drain::Coming;
 use ground::one;
 use ground::wide;
+use numbers::FIRST_BYTES;
 use numbers::LOG_AREA;
-use numbers::MOST_STEPS;
 use numbers::ROW_BYTES;
+use numbers::SLOT_BYTES;
 use numbers::TABLE_AREA;
 use numbers::answer::TABLE;
 use refusals::drain_refusal;
@@ -53,16 +56,26 @@ fn step(mut k: Kernel, p: usize, next: u8) -> Kernel
 fn coming(k: Kernel, p: usize) -> Coming
     requires { ⌜ (1 ≤ p) × (p ≤ objects) × (0 < getD (k .counts) (p - 1) 0) ⌝ }
     requires { ⌜ (p ≡ toRun (stateOf k)) × Fit (stateOf k) ⌝ }
-    ensures { λ r. ⌜ Looks (stateOf k) (front (stateOf k .boxes) (p - 1)) (restOf (stateOf k) p) (slotOf (stateOf k) p) r ⌝ }
+    ensures { λ r. ⌜ Looks (stateOf k) (machine.coming (stateOf k)) r ⌝ }
 {
     let places = k.places;
     let heads = k.heads;
     let counts = k.counts;
     let signals = k.signals;
+    let gens = pool::generations(k.pool);
+    let e = mail::front(&places, &heads, &counts, p - 1);
+    drain::look(&signals, &gens, e)
+}
+
+// Where in the tables the row of object p for a signal begins.
+fn row_at(k: Kernel, p: usize, signal: u8) -> usize
+    requires { ⌜ (1 ≤ p) × (p ≤ objects) × (1 ≤ restOf (stateOf k) p) × (firstSignal ≤ signal)
+        × (slotSize * slotOf (stateOf k) p + place (restOf (stateOf k) p) signal ≤ tableBytes) ⌝ }
+    ensures { λ r. ⌜ r ≡ slotSize * slotOf (stateOf k) p + place (restOf (stateOf k) p) signal ⌝ }
+{
     let rests = k.rests;
     let seats = k.seats;
-    let e = mail::front(&places, &heads, &counts, p - 1);
-    drain::look(&signals, e, rests[p - 1], seats[p - 1])
+    SLOT_BYTES * wide(seats[p - 1]) + chart::row_place(rests[p - 1], signal)
 }
 
 // Object p takes a row with the event that comes.
@@ -70,13 +83,11 @@ fn next_done(k: Kernel, p: usize, l: Coming, row: &[u8]) -> Answered
     requires { ⌜ (1 ≤ p) × (p ≤ objects) × (0 < getD (k .counts) (p - 1) 0) ⌝ }
     requires { ⌜ Runs p l (now row) ⌝ }
     ensures { λ r. ⌜ ((z : Areas) → answered r z ≡
-        answer (afterStep (stateOf k) p (getD (now (row .entry)) 0 0))
-        (ran p (l .signal) (handle₁ (l .hand)) (handle₂ (stateOf k) (l .hand)) (now (row .entry))) z) ⌝ }
+        answer (afterStep (stateOf k) p (getD (now (row .entry)) 0 0)) (ran p (l .signal) (l .first) (l .second) (now (row .entry))) z) ⌝ }
 {
-    let gens = pool::generations(k.pool);
     Answered {
         kernel: step(k, p, row[0]),
-        reply: drain::answer(p, l, &gens, row),
+        reply: drain::answer(p, l, row),
     }
 }
 
@@ -93,7 +104,7 @@ pub fn next(k: Kernel, spoilt: bool, tables: &[u8]) -> Answered
         return refuse(k, no);
     }
     let l = coming(k, p);
-    let at = l.at;
+    let at = row_at(k, p, l.signal);
     let row = &tables[at..at + ROW_BYTES];
     if !chart::sound(row) {
         return refuse(k, TABLE);
@@ -142,7 +153,7 @@ fn drain_done(mut k: Kernel, budget: usize, tables: &[u8], log: &mut [u8]) -> An
     let seats = k.seats;
     let signals = k.signals;
     let gens = pool::generations(k.pool);
-    let mut gone = [0u8; MOST_STEPS];
+    let mut times = [0u8; FIRST_BYTES];
     let n = drain::run(
         &places,
         &mut heads,
@@ -151,12 +162,12 @@ fn drain_done(mut k: Kernel, budget: usize, tables: &[u8], log: &mut [u8]) -> An
         &seats,
         &signals,
         &gens,
-        &mut gone,
+        &mut times,
         tables,
         log,
         budget,
     );
-    let pool = pool::let_go_all(k.pool, &gone[0..n]);
+    let pool = pool::let_go_each(k.pool, &times);
     let last = drain::last_value(&counts, n, budget);
     k.pool = pool;
     k.heads = heads;

@@ -9,4 +9,6 @@ unfolding place
 returns c = omega arith
 
 pub row-place-spec : {M : Type 1} → statement M
-row-place-spec = tie.close (tie.spec (λ c κs. search needs) (λ c. search needs) (λ c. search needs) returns)
+row-place-spec =
+    tie.close
+    (tie.spec (λ c κs. search needs) (λ c. search needs) (λ c κs. search needs) (λ c. search needs) (λ c. search needs) (λ c. search needs) returns)

@@ -43,7 +43,7 @@ returns-5 c =
       ← c .before .before .wide .ensures .0,
       le-leb _ _ (c .before .if4 .left),
     )
-    (c .blank .ensures)
+    (c .blank-from .ensures)
 
 pub sound-spec : {M : Type 1} → statement M
 sound-spec =

@@ -1,22 +1,47 @@
 use borrow.Author.Needs.{needs}
-use mathlib.Core.Path.{refl}
+use mathlib.Core.Path.{refl, sym, _∙_}
 use native.Mathlib.Omega.{arith}
-use Rattle.chart.specs.Flat.{place}
+use Rattle.machine.specs.Inv.{IsEvent}
+use Rattle.machine.specs.Steps.{signalOf, handle₁, handle₂}
 use Rattle.drain.proofs.look.Statement.{statement}
 use Rattle.drain.proofs.look.Tie as tie
 
-event : tie.Need-signal-of-requires
-event c κs = rw (c .hand-of .ensures) (c .before .pre)
+-- The entry stands for the block of this arm, and that is a block.
+in-range : tie.Need-element-copy-out-t12
+unfolding IsEvent
+in-range c =
+    let b = c .before .before .before .before in
+    omega (arith, c .wide .ensures .0, rw (← b .hand-of .ensures, c .before .before .b .given .1) at (b .before .pre))
 
-fits : tie.Need-add-at
-unfolding place
-fits c = omega arith
+in-range-2 : tie.Need-element-copy-out-t15
+in-range-2 c = in-range (c .before)
+
+fits : tie.Need-add-t16
+unfolding IsEvent
+fits c =
+    let b = c .before .before .before in
+    omega (arith, (rw (← b .hand-of .ensures, c .before .t .given .1) at (b .before .pre)) .0)
 
 returns : tie.Need-returns
-returns c = λ s e.
-    let h = c .before .before .before .hand-of .ensures in
-    let g = rw h at (c .before .before .signal-of .ensures s e) in
-    record { hand = h; signal = g; at = rw (c .before .wide .ensures .0, c .row-place .ensures, g) refl }
+unfolding IsEvent
+returns c = λ s e g. absurd (rw (← c .before .before .hand-of .ensures, c .enum-told .given .1) at (c .before .before .before .pre))
+
+returns-2 : tie.Need-returns-2
+unfolding signalOf handle₁ handle₂ IsEvent
+returns-2 c = λ s e g.
+    let b = c .before .before .before .before .before .before in
+    let h = sym (b .hand-of .ensures) ∙ c .before .before .before .before .b .given .1 in
+    let w = c .before .before .wide .ensures .0 in
+    record { signal = rw (w, h, e) refl; first = rw h refl; second = rw (w, h) (sym (g _ (rw h at (b .before .pre)))) }
+
+returns-3 : tie.Need-returns-3
+unfolding signalOf handle₁ handle₂
+returns-3 c = λ s e g.
+    let h = sym (c .before .before .before .hand-of .ensures) ∙ c .before .t .given .1 in
+    record { signal = rw h refl; first = rw h refl; second = rw h refl }
 
 pub look-spec : {M : Type 1} → statement M
-look-spec = tie.close (tie.spec (λ c κs. search needs) event (λ c κs. search needs) (λ c. search needs) (λ c κs. search needs) fits returns)
+look-spec =
+    tie.close
+    (tie.spec (λ c κs. search needs) (λ c. search needs) (λ c. search needs) (λ c κs. search needs) in-range in-range-2 (λ c. search needs) fits returns
+    returns-2 returns-3)

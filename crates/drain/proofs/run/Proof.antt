@@ -1,81 +1,72 @@
 use borrow.Author.Needs.{needs}
-use borrow.Author.Tests.{not-true, not-false}
 use mathlib.Core.Path.{_≡_, refl, sym, _∙_}
-use Prim.Native.Nat.{_-_, _≤_}
+use Prim.Native.Nat.{_-_, _<_, _≤_}
 use native.Mathlib.Omega.{arith}
-use Rattle.machine.proofs.Run.{fit-now, fit-on, run-end, run-stop, run-step}
-use Rattle.machine.specs.Run.{FitRun, runFrom}
-use Rattle.drain.specs.Turn.{Sized, runAt}
+use Rattle.machine.proofs.Run.{run-stop}
+use Rattle.machine.specs.Numbers.{objects}
+use Rattle.machine.specs.Run.{FitRun, runFrom, seen}
+use Rattle.mail.specs.View.{boxes, queued-in}
+use Rattle.drain.specs.Lent.{Above, Sized, runAt}
+use Rattle.drain.proofs.Laws.{above-all, above-empty, none-is, none-queued}
 use Rattle.drain.proofs.run.Statement.{statement}
 use Rattle.drain.proofs.run.Tie as tie
 
--- What is left of the run, from where it stands, is the whole run.
+-- What is left of the run, from where it stands, is the whole run; and no object above p has mail.
 abbrev Inv-loop : tie.InvT-loop
-Inv-loop places heads₀ counts₀ rests₀ seats signals gens gone₀ tables log₀ budget n₀ heads counts rests gone log n =
-    (n ≤ budget)
-    × Sized places heads counts gone log
-    × FitRun gens signals seats tables (runAt places heads counts rests gone log n)
-    × (runFrom gens signals seats tables (budget - n) (runAt places heads counts rests gone log n)
-    ≡ runFrom gens signals seats tables budget (runAt places heads₀ counts₀ rests₀ gone₀ log₀ 0))
+Inv-loop places heads₀ counts₀ rests₀ seats signals gens times₀ tables log₀ budget n₀ p₀ heads counts rests times log n p =
+    (p ≤ objects)
+    × (n ≤ budget)
+    × Sized places heads counts rests times log n
+    × FitRun gens signals seats tables (runAt places heads counts rests times log n)
+    × Above p (boxes places heads counts)
+    × (runFrom gens signals seats tables (budget - n) (runAt places heads counts rests times log n)
+    ≡ runFrom gens signals seats tables budget (runAt places heads₀ counts₀ rests₀ times₀ log₀ 0))
 
 abbrev μ-loop : tie.MeasureT-loop
-μ-loop places heads₀ counts₀ rests₀ seats signals gens gone₀ tables log₀ budget n₀ heads counts rests gone log n = budget - n
+μ-loop places heads₀ counts₀ rests₀ seats signals gens times₀ tables log₀ budget n₀ p₀ heads counts rests times log n p = p
 
 loop-holds : tie.Need-loop-holds Inv-loop μ-loop
 loop-holds c =
     let s = c .before .before in
-    let z : s .args .budget - 0 ≡ s .args .budget = omega arith in
-    (omega arith, s .pre .0 .0, s .pre .1, rw z refl)
-
-drain-step-requires : tie.Need-drain-step-requires Inv-loop μ-loop
-drain-step-requires c κs =
-    let s = c .before .before .before .before .before .before .before .before .before in
     let a = s .args in
-    let v = c .before .before .before .before .before .before .loop .inv in (
-      v .1,
-      (
-        (s .pre .0 .1, omega (arith, s .pre .0 .2, c .before .before .before .before .before .loop-test .taken)),
-        fit-now (a .gens .now) (a .signals .now) (a .seats .now) (a .tables .now) _ (v .2),
-      ),
-    )
+    let z : a .budget - 0 ≡ a .budget = omega arith in
+    (omega arith, omega arith, s .pre .0 .0, s .pre .1, rw (← s .pre .0 .0 .counts) (above-all (a .places .now) (a .heads .now) (a .counts .now)), rw z refl)
+
+turn-requires : tie.Need-turn-requires Inv-loop μ-loop
+turn-requires c κs =
+    let s = c .before .before .before .before .before .before .before .before .before in
+    let v = c .before .before .before .before .before .before .loop .inv in
+    ((v .2, s .pre .0 .1, s .pre .0 .2), ((v .1, c .before .before .before .before .before .loop-test .taken, v .0, v .4), v .3))
 
 returns : tie.Need-returns Inv-loop μ-loop
 returns c =
-    let a = c .before .before .before .before .before .before .before .before .before .before .before .before .before .args in
-    let l = c .before .before .before .before .before .before .before .before .before .before .loop in
-    let t = c .before .before .before .drain-step .ensures .0 .stops (not-true _ (c .if1 .taken)) in (
-      c .before .before .before .drain-step .ensures .1,
-      t .1 ∙ sym (run-stop (a .gens .now) (a .signals .now) (a .seats .now) (a .tables .now) _ (a .budget - l .n) (t .0)) ∙ l .inv .3,
-    )
+    let o = c .before .before .before .before .turn .ensures in
+    (o .1, sym (o .0 .ended (λ z. c .if1 .taken (sym (queued-in _ _ _ _) ∙ z))) ∙ o .0 .same ∙ c .before .before .before .before .before .before .before .before .before .before .before .loop .inv .5)
+
+same-length : tie.Need-same-length Inv-loop μ-loop
+same-length c = c .before .before .before .before .turn .ensures .1 .log ∙ sym (c .before .before .before .before .before .before .before .before .before .before .before .before .before .before .pre .0 .0 .log)
 
 loop-again : tie.Need-loop-again Inv-loop μ-loop
 loop-again c =
-    let a = c .before .before .before .before .before .before .before .before .before .before .before .before .before .args in
-    let test = c .before .before .before .before .before .before .before .before .before .loop-test .taken in
-    let l = c .before .before .before .before .before .before .before .before .before .before .loop in
-    let d = c .before .before .before .drain-step .ensures in
-    let t = d .0 .goes (not-false _ (c .if1 .left)) in (
-      omega arith,
-      d .1,
-      rw (t .1) (fit-on (a .gens .now) (a .signals .now) (a .seats .now) (a .tables .now) _ (t .0) (l .inv .2)),
-      rw (t .1) (sym (run-step (a .gens .now) (a .signals .now) (a .seats .now) (a .tables .now) _ (l .n) (a .budget) test (t .0)) ∙ l .inv .3),
-    )
+    let v = c .before .before .before .before .before .before .before .before .before .before .before .loop .inv in
+    let o = c .before .before .before .before .turn .ensures in
+    (omega arith, o .0 .within, o .1, o .0 .fit, above-empty _ _ _ _ (o .0 .above) (c .if1 .left), o .0 .same ∙ v .5)
+
+same-length-2 : tie.Need-same-length-2 Inv-loop μ-loop
+same-length-2 c = c .before .loop .inv .2 .log ∙ sym (c .before .before .before .before .pre .0 .0 .log)
 
 returns-2 : tie.Need-returns-2 Inv-loop μ-loop
 returns-2 c =
     let a = c .before .before .before .before .args in
     let l = c .before .loop in
-    (l .inv .1, sym (run-end (a .gens .now) (a .signals .now) (a .seats .now) (a .tables .now) _ (l .n) (a .budget) (c .loop-test .left)) ∙ l .inv .3)
-
-same-length : tie.Need-same-length Inv-loop μ-loop
-same-length c =
-    c .before .before .before .drain-step .ensures .1 .log
-    ∙ sym (c .before .before .before .before .before .before .before .before .before .before .before .before .before .pre .0 .0 .log)
-
-same-length-2 : tie.Need-same-length-2 Inv-loop μ-loop
-same-length-2 c = c .before .loop .inv .1 .log ∙ sym (c .before .before .before .before .pre .0 .0 .log)
+    let x = runAt (a .places .now) (l .heads) (l .counts) (l .rests) (l .times) (l .log) (l .n) in
+    let z : l .p ≡ 0 = omega (arith, c .loop-test .left) in
+    let e = none-is (boxes (a .places .now) (l .heads) (l .counts)) (rw z at (l .inv .4)) in
+    let i = none-queued (seen (a .gens .now) (a .signals .now) (a .seats .now) x) (a .tables .now) 0 e refl in
+    (l .inv .2, sym (run-stop (a .gens .now) (a .signals .now) (a .seats .now) (a .tables .now) x (a .budget - l .n) (λ y. omega (arith, i))) ∙ l .inv .5)
 
 pub run-spec : {M : Type 1} → statement M
 run-spec =
     tie.close
-    (tie.spec Inv-loop μ-loop loop-holds drain-step-requires same-length returns (λ c. search needs) (λ c. search needs) loop-again same-length-2 returns-2)
+    (tie.spec Inv-loop μ-loop loop-holds turn-requires (λ c. search needs) (λ c. search needs) same-length returns (λ c. search needs) (λ c. search needs)
+    loop-again same-length-2 returns-2)

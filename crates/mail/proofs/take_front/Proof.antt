@@ -8,7 +8,7 @@ returns : tie.Need-returns
 returns c =
     let start = c .before .before .before .before .before .before .before .before .before in
     rw (c .before .place .ensures, c .before .before .wide2 .ensures .0, c .before .before .before .before .wide .ensures .0) (
-      took-front _ _ _ _ (start .pre .1 .0) (start .pre .0) (start .pre .1 .1),
+      took-front _ _ _ _ (start .pre .1 .0) (start .pre .0),
       (first-entry _ _ _ _ (start .pre .1 .0) (start .pre .1 .1), refl),
     )
 

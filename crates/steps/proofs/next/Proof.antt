@@ -2,16 +2,17 @@ use borrow.Author.Needs.{needs}
 use mathlib.Core.Bool.{true, false}
 use mathlib.Core.List.{[], _∷_, _++_}
 use mathlib.Core.Path.{_≡_, refl, sym, _∙_}
-use Prim.Native.Nat.{_+_, _-_, _<_, _≤_}
+use Prim.Native.Nat.{_+_, _*_, _-_, _<_, _≤_}
 use native.Mathlib.Omega.{arith}
 use lib.ListN.{getD, take, drop}
-use Rattle.chart.specs.Flat.{sound}
-use Rattle.chart.specs.Numbers.{rowSize}
+use Rattle.chart.specs.Flat.{place, sound}
+use Rattle.chart.specs.Numbers.{rowSize, slotSize}
 use Rattle.drain.proofs.Laws.{row-unsound, row-sound, row-read, row-end, runs}
 use Rattle.ground.specs.Bools.{refused, passed}
 use Rattle.machine.specs.Numbers.{objects, tableBytes}
 use Rattle.machine.specs.Reply.{TABLE, lowest}
 use Rattle.machine.specs.Run.{Fit}
+use Rattle.machine.specs.State.{restOf, slotOf}
 use Rattle.machine.specs.Steps.{toRun, next, nextRow}
 use Rattle.mail.specs.View.{highest-count}
 use Rattle.state.specs.View.{stateOf}
@@ -62,50 +63,60 @@ with-mail c =
     let l : 1 ≤ c .before .before .before .highest .result = omega (arith, ne) in
     (l, omega (arith, h .1, rings (s .args .k) _ (s .good .0)), highest-count _ _ (h .0) l)
 
-within : (c : tie.After-coming) → c .coming .result .at + rowSize ≤ tableBytes
-within c = row-end _ [] _ (object (c .before .before)) _ (c .coming .ensures) (fit (c .before))
+-- The event that comes, its row, and the row's place in the tables.
+module _ (c : tie.After-row-at) where
+  place-is : c .row-at .result ≡ slotSize * slotOf (stateOf (c .before .before .before .before .before .before .before .before .before .args .k)) (c .before .before .before .before .before .highest .result) + place (restOf (stateOf (c .before .before .before .before .before .before .before .before .before .args .k)) (c .before .before .before .before .before .highest .result)) (c .before .coming .result .signal)
+  place-is = c .row-at .ensures
+
+  within : c .row-at .result + rowSize ≤ tableBytes
+  within = row-end _ (c .before .before .before .before .before .before .before .before .before .args .tables .now) _ (object (c .before .before .before)) _ (c .before .coming .ensures) (fit (c .before .before)) _ place-is
+
+  row-is : let a = c .before .before .before .before .before .before .before .before .before .args in take (c .row-at .result + rowSize - c .row-at .result) (drop (c .row-at .result) (a .tables .now)) ≡ nextRow (stateOf (a .k)) (a .tables .now)
+  row-is = row-read _ (c .before .before .before .before .before .before .before .before .before .args .tables .now) _ (object (c .before .before .before)) _ (c .before .coming .ensures) (fit (c .before .before)) _ place-is
+
+row-at-requires : tie.Need-row-at-requires
+row-at-requires c κs =
+    let m = with-mail (c .before) in
+    let f = fit (c .before) in
+    let o = object (c .before .before) in
+    let w = c .coming .ensures .signal in
+    (m .0, m .1, rw (← o) at (f .rested), rw w (f .signal .low), rw (w, o) (omega (arith, f .end)))
 
 part-row-end : tie.Need-part-row-end
 part-row-end c =
-    let a = c .before .before .before .before .before .before .before .before .args in
-    omega (arith, within c, tables-long (a .spoilt) (stateOf (a .k)) (a .tables .now) (none (c .before)))
-
--- The row that is read.
-row-is : (c : tie.After-coming) →
-    let a = c .before .before .before .before .before .before .before .before .args in
-    take (c .coming .result .at + rowSize - c .coming .result .at) (drop (c .coming .result .at) (a .tables .now)) ≡ nextRow (stateOf (a .k)) (a .tables .now)
-row-is c = row-read _ _ _ (object (c .before .before)) _ (c .coming .ensures)
+    let a = c .before .before .before .before .before .before .before .before .before .args in
+    omega (arith, within c, tables-long (a .spoilt) (stateOf (a .k)) (a .tables .now) (none (c .before .before)))
 
 returns-2 : tie.Need-returns-2
 unfolding next
 returns-2 c = λ p l.
     let k = c .before .before .before .before in
-    let a = k .before .before .before .before .before .before .before .before .args in
+    let a = k .before .before .before .before .before .before .before .before .before .args in
     let f : sound (nextRow (stateOf (a .k)) (a .tables .now)) ≡ false = rw (← row-is k) (refused (c .before .before .sound .ensures) (c .before .if2 .taken)) in
-    let e = row-unsound (stateOf (a .k)) (a .tables .now) _ (object (k .before .before)) (some-queued (k .before)) f in
-    refusal _ _ _ _ _ _ (sym (but-row (a .spoilt) (stateOf (a .k)) (a .tables .now) (none (k .before)) ∙ e)) (λ z. omega arith) (c .refuse2 .ensures)
+    let e = row-unsound (stateOf (a .k)) (a .tables .now) _ (object (k .before .before .before)) (some-queued (k .before .before)) f in
+    refusal _ _ _ _ _ _ (sym (but-row (a .spoilt) (stateOf (a .k)) (a .tables .now) (none (k .before .before)) ∙ e)) (λ z. omega arith) (c .refuse2 .ensures)
 
-is-sound : (c : tie.Else2) →
-    let a = c .before .before .before .before .before .before .before .before .before .before .before .args in
-    sound (nextRow (stateOf (a .k)) (a .tables .now)) ≡ true
+is-sound : (c : tie.Else2) → let a = c .before .before .before .before .before .before .before .before .before .before .before .before .args in sound (nextRow (stateOf (a .k)) (a .tables .now)) ≡ true
 is-sound c = rw (← row-is (c .before .before .before)) (passed (c .before .sound .ensures) (c .if2 .left))
 
 next-done-requires : tie.Need-next-done-requires
 next-done-requires c κs =
     let k = c .before .before .before in
-    let m = with-mail (k .before) in
-    (m, rw (row-is k) (runs _ [] _ (object (k .before .before)) _ (k .coming .ensures) (fit (k .before)) (m .1) _ (is-sound c)))
+    let m = with-mail (k .before .before) in
+    (m, rw (row-is k) (runs _ (k .before .before .before .before .before .before .before .before .before .args .tables .now) _ (object (k .before .before .before)) _ (k .before .coming .ensures) (fit (k .before .before)) (m .1) _ (is-sound c)))
 
 returns-3 : tie.Need-returns-3
 unfolding next
 returns-3 c = λ p l.
     let k = c .before .before .before .before in
-    let a = k .before .before .before .before .before .before .before .before .args in
-    let e = row-sound (stateOf (a .k)) (a .tables .now) _ (object (k .before .before)) (some-queued (k .before)) (is-sound (c .before)) in
-    doing _ _ 0 _ _ _ (sym (but-row (a .spoilt) (stateOf (a .k)) (a .tables .now) (none (k .before)) ∙ e)) refl
-    (c .next-done .ensures _ ∙ step-is (a .k) (a .tables .now) _ (object (k .before .before)) _ (k .coming .ensures) _ (row-is k) _)
+    let a = k .before .before .before .before .before .before .before .before .before .args in
+    let e = row-sound (stateOf (a .k)) (a .tables .now) _ (object (k .before .before .before)) (some-queued (k .before .before)) (is-sound (c .before)) in
+    doing _ _ 0 _ _ _ (sym (but-row (a .spoilt) (stateOf (a .k)) (a .tables .now) (none (k .before .before)) ∙ e)) refl
+    (c .next-done .ensures _ ∙ step-is (a .k) (a .tables .now) _ (object (k .before .before .before)) _ (k .before .coming .ensures) _ (row-is k) _)
 
 pub next-spec : {M : Type 1} → statement M
 next-spec =
     tie.close
-    (tie.spec (λ c. search needs) (λ c κs. search needs) (λ c κs. search needs) (λ c κs. search needs) (λ c κs. search needs) returns (λ c κs. (with-mail c, (object (c .before), fit c))) (λ c. omega (arith, within c)) (λ c. search needs) (λ c. search needs) part-row-end (λ c κs. search needs) (λ c κs. search needs) returns-2 next-done-requires returns-3)
+    (tie.spec (λ c. search needs) (λ c κs. search needs) (λ c κs. search needs) (λ c κs. search needs) (λ c κs. search needs) returns
+    (λ c κs. (with-mail c, (object (c .before), fit c))) row-at-requires (λ c. omega (arith, within c)) (λ c. search needs) (λ c. search needs) part-row-end
+    (λ c κs. search needs) (λ c κs. search needs) returns-2 next-done-requires returns-3)

@@ -1,0 +1,109 @@
+-- A run in the midst of the steps of object p, and one step more of it.
+use mathlib.Core.List.{List}
+use mathlib.Core.Path.{_≡_, refl, sym, ap, _∙_}
+use Prim.Native.Nat.{ℕ, _+_, _*_, _-_, _<_, _≤_, min}
+use native.Mathlib.Decide.{decLt, ℕ-discrete}
+use native.Mathlib.Omega.{arith}
+use lib.ListN.{length, getD, set, length-set}
+use lib.Seq.{getD-set-same, getD-set-other, set-getD, set-out, set-set}
+use Rattle.chart.specs.Numbers.{slotSize}
+use Rattle.machine.proofs.Run.{fit-now}
+use Rattle.machine.specs.Numbers.{replyBytes, tableBytes}
+use Rattle.machine.specs.Reply.{over, replyOf, ran}
+use Rattle.machine.specs.Run.{FitRun, Run, onward, seen}
+use Rattle.machine.specs.State.{State, restOf}
+use Rattle.machine.specs.Steps.{coming, nextRow, nextSays, logged}
+use Rattle.mail.specs.Box.{boxAt, front, highest, tookFirst}
+use Rattle.mail.specs.Laws.{changed-length, changed-other, first-front, first-length, first-more, first-none}
+use Rattle.mail.specs.View.{Holds, boxes, boxes-length, queued-in}
+use Rattle.pool.specs.Laws.{once-more-set}
+use Rattle.pool.specs.Row.{firstBytes}
+use Rattle.drain.specs.Lent.{Above, Looks, Sized, midway, runAt}
+use Rattle.drain.specs.declared.Coming.{Coming}
+use Rattle.drain.proofs.Laws.{top-is}
+
+module _ (pl hs cs rs ts lg : List ℕ) (q from : ℕ) where
+  -- where it begins, and where all is written back
+  pub at-first : runAt pl hs cs rs ts lg from ≡ midway pl hs cs rs ts lg q from (getD rs q 0) from
+  at-first = let z : from - from ≡ 0 = omega arith in rw (z, first-none (boxes pl hs cs) q, set-getD rs q 0) refl
+
+  pub written-back : (rest n : ℕ) (hs' cs' rs' : List ℕ) → Holds pl hs' cs' (tookFirst (boxes pl hs cs) q (n - from)) → rs' ≡ set rs q rest →
+      midway pl hs cs rs ts lg q from rest n ≡ runAt pl hs' cs' rs' ts lg n
+  written-back rest n hs' cs' rs' h e = rw (h .are, e) refl
+
+-- the arrays have their lengths when all is written back, and after one step more
+pub sized-back : (pl hs cs rs ts lg : List ℕ) (q rest n : ℕ) (hs' cs' rs' : List ℕ) (bs : List (List ℕ)) →
+    Sized pl hs cs rs ts lg n → Holds pl hs' cs' bs → rs' ≡ set rs q rest → Sized pl hs' cs' rs' ts lg n
+sized-back pl hs cs rs ts lg q rest n hs' cs' rs' bs z h e = record {
+  mail = h .mail;
+  counts = omega (arith, h .mail .places, z .mail .places, z .counts);
+  rests = rw (e, length-set) (z .rests);
+  times = z .times;
+  few = z .few;
+  log = z .log;
+}
+
+pub sized-on : (pl hs cs rs ts lg lg' : List ℕ) (b n : ℕ) → Sized pl hs cs rs ts lg n → length lg' ≡ length lg → Sized pl hs cs rs (set ts b (getD ts b 0 + 1)) lg' (n + 1)
+sized-on pl hs cs rs ts lg lg' b n z e = record {
+  mail = z .mail;
+  counts = z .counts;
+  rests = z .rests;
+  times = rw length-set (z .times);
+  few = λ k. few k (ℕ-discrete k b) (decLt b (length ts));
+  log = e ∙ z .log;
+}
+  where
+    few : (k : ℕ) → Dec (k ≡ b) → Dec (b < length ts) → getD (set ts b (getD ts b 0 + 1)) k 0 ≤ n + 1
+    few k (yes h) (yes l) = rw (h, getD-set-same ts b (getD ts b 0 + 1) 0 l) (omega (arith, z .few b))
+    few k (yes h) (no l) = rw (set-out ts b (getD ts b 0 + 1) (omega arith)) (omega (arith, z .few k))
+    few k (no h) d = rw (getD-set-other ts b k (getD ts b 0 + 1) 0 h) (omega (arith, z .few k))
+
+-- the slot of an object that is to run begins in the tables
+pub slot-begins : (gens signals seats tables pl hs cs rs ts lg : List ℕ) (p n : ℕ) → FitRun gens signals seats tables (runAt pl hs cs rs ts lg n) →
+    Above p (boxes pl hs cs) → 0 < p → p ≤ length cs → 0 < getD cs (p - 1) 0 → length tables ≡ tableBytes → slotSize * getD seats (p - 1) 0 ≤ length tables
+slot-begins gens signals seats tables pl hs cs rs ts lg p n f above low high some t =
+    let e : p ≡ highest (boxes pl hs cs) = top-is (boxes pl hs cs) p above low (omega (arith, boxes-length pl hs cs)) (λ z. omega (arith, queued-in pl hs cs (p - 1))) in
+    let end = rw (← e) at (fit-now gens signals seats tables _ f (omega arith) .end) in
+    omega arith
+
+module _ (gens signals seats tables pl hs cs rs ts lg : List ℕ) (p from rest n : ℕ) (within : p - 1 < length cs) where
+  abbrev x : Run
+  x = midway pl hs cs rs ts lg (p - 1) from rest n
+
+  abbrev s : State
+  s = seen gens signals seats x
+
+  among : p - 1 < length (boxes pl hs cs)
+  among = omega (arith, boxes-length pl hs cs)
+
+  pub left-is : length (boxAt (x .boxes) (p - 1)) ≡ getD cs (p - 1) 0 - (n - from)
+  left-is = first-length (boxes pl hs cs) (p - 1) among (n - from) ∙ ap (λ k. k - (n - from)) (queued-in pl hs cs (p - 1))
+
+  pub front-is : getD (boxAt (boxes pl hs cs) (p - 1)) (n - from) 0 ≡ front (x .boxes) (p - 1)
+  front-is = sym (first-front (boxes pl hs cs) (p - 1) among (n - from))
+
+  pub rest-is : p - 1 < length rs → restOf s p ≡ rest
+  rest-is h = getD-set-same rs (p - 1) rest 0 h
+
+  pub above-is : 0 < p → Above p (boxes pl hs cs) → Above p (x .boxes)
+  above-is low above k h = ap length (changed-other _ (boxes pl hs cs) (p - 1) k (λ z. omega arith)) ∙ above k h
+
+  -- as long as the end of its mail, or of the budget, is not reached it is the highest with mail
+  module _ (above : Above p (boxes pl hs cs)) (end budget : ℕ) (e : end ≡ min (from + getD cs (p - 1) 0) budget) (t : n < end) (since : from ≤ n) (low : 0 < p) where
+    pub some-left : n - from < getD cs (p - 1) 0
+    some-left = omega arith
+
+    pub top : p ≡ highest (x .boxes)
+    top =
+        let l : length (x .boxes) ≡ length cs = changed-length _ (boxes pl hs cs) (p - 1) ∙ boxes-length pl hs cs in
+        top-is (x .boxes) p (above-is low above) low (omega arith) (λ z. omega (arith, left-is))
+
+  -- one step more
+  pub onward-is : from ≤ n → p ≡ highest (x .boxes) → (l : Coming) → Looks s (coming s) l → (row : List ℕ) → row ≡ nextRow s tables →
+      length ts ≡ firstBytes → l .first < firstBytes →
+      midway pl hs cs rs (set ts (l .first) (getD ts (l .first) 0 + 1)) (over lg (replyBytes * n) (replyOf (ran p (l .signal) (l .first) (l .second) row)))
+      (p - 1) from (getD row 0 0) (n + 1) ≡ onward gens signals seats tables x
+  unfolding onward logged nextSays
+  onward-is since e l w row r long small =
+      let z : n + 1 - from ≡ n - from + 1 = omega arith in
+      rw (z, ← first-more (boxes pl hs cs) (p - 1) (n - from), once-more-set ts (l .first) long small, w .signal, w .first, w .second, r, ← e, set-set) refl
