@@ -6,10 +6,10 @@ pub mod frames;
 ghost use mathlib.Core.Path.{_≡_};
 ghost use Rattle.chart.specs.Chart.{classOf};
 ghost use Rattle.chart.specs.Flat.{flattened};
-ghost use Rattle.host.specs.Told.{Found, told};
+ghost use Rattle.host.specs.Told.{Found};
 ghost use Rattle.machine.specs.Machine.{answerTo};
 ghost use Rattle.machine.specs.State.{freshState};
-ghost use Rattle.state.specs.View.{areas, Good, stateOf};
+ghost use Rattle.state.specs.View.{areas, Good, stateOf, told};
 use kernel::Kernel;
 use numbers::REPLY_BYTES;
 

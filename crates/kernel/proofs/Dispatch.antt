@@ -16,7 +16,7 @@ use Rattle.machine.specs.Machine.{answerTo, arg, choose, command}
 use Rattle.machine.specs.Numbers.{recordBytes, outside}
 use Rattle.machine.specs.Reply.{FORM, Areas, answer, no, replyOf}
 use Rattle.machine.specs.State.{State}
-use Rattle.state.specs.View.{Good, answered, stateOf}
+use Rattle.state.specs.View.{Good, answered, areas, stateOf}
 use Rattle.state.specs.declared.Answered.{Answered}
 use Rattle.state.specs.declared.Kernel.{Kernel}
 
@@ -64,25 +64,39 @@ unknown-form n r d s z h =
     off : (i : ℕ) → outside 1 last i ≡ false → eqb n i ≡ false
     off i e = ne-eqb n i (is-none last n i h (within-low 1 last i e) (within-high 1 last i e))
 
-module _ (k : Kernel) (good : Good k) (a : Answered) (r d : List ℕ) (z y : Areas) where
-  abbrev Promised : Type 0
-  Promised = Good (a .kernel) × (answered a y ≡ answerTo (stateOf k) r d z)
+-- a good kernel again, and the machine's answer
+abbrev pub Promised : Kernel → List ℕ → List ℕ → Areas → Answered → Areas → Type 0
+Promised k r d z a y = Good (a .kernel) × (answered a y ≡ answerTo (stateOf k) r d z)
 
-  -- the invariant is kept by every answer
-  promised : answered a y ≡ answerTo (stateOf k) r d z → Promised
+-- the invariant is kept by every answer
+promise : (k : Kernel) (r d : List ℕ) (z : Areas) (a : Answered) (y : Areas) → Good k → answered a y ≡ answerTo (stateOf k) r d z → Promised k r d z a y
+unfolding answered
+promise k r d z a y good e = (subst (λ x. Inv (x .state)) (sym e) (keeps (stateOf k) r d z good), e)
+
+pub no-record : (k : Kernel) (r d : List ℕ) (z : Areas) (reply : List ℕ) → Good k → (length r ≡ recordBytes → ⊥) → reply ≡ replyOf (no FORM) → Promised k r d z (record { kernel = k; reply = reply }) z
+unfolding answered answerTo choose
+no-record k r d z reply good ne form = promise k r d z (record { kernel = k; reply = reply }) z good (rw (ne-eqb (length r) recordBytes ne, form) refl)
+
+-- Behind the arms, where the areas p, t and l are p′, t′ and l′: each is as long as it was, and the promise holds.
+pub record Settled (k : Kernel) (r d p t l : List ℕ) (a : Answered) (p′ t′ l′ : List ℕ) : Type 0 where
+  pub payloads : length p′ ≡ length p
+  pub tables : length t′ ≡ length t
+  pub log : length l′ ≡ length l
+  pub promised : Promised k r d (areas p t l) a (areas p′ t′ l′)
+
+-- From what an arm left, the answer b and the areas x, y and z, to what is known behind the arms.
+module _ {k : Kernel} {r d p t l : List ℕ} (ready : Good k × (length r ≡ recordBytes)) {a b : Answered} {p′ t′ l′ : List ℕ} where
+  pub known : (n : ℕ) → arg r 0 ≡ n → {x y z : List ℕ} → answered b (areas x y z) ≡ command n r d (stateOf k) (areas p t l)
+      → length x ≡ length p → length y ≡ length t → length z ≡ length l → p′ ≡ x → t′ ≡ y → l′ ≡ z → a ≡ b → Settled k r d p t l a p′ t′ l′
+  unfolding answerTo choose
+  known n is {x} {y} {z} e px ty lz p-is t-is l-is a-is =
+      let kept = promise k r d (areas p t l) b (areas x y z) (ready .0) (rw (eq-eqb (length r) recordBytes (ready .1), is) e) in
+      rw (p-is, t-is, l-is, a-is) record { payloads = px; tables = ty; log = lz; promised = kept }
+
+  -- the areas as they were
+  pub unchanged : (n : ℕ) → arg r 0 ≡ n → answered b (areas p t l) ≡ command n r d (stateOf k) (areas p t l) → p′ ≡ p → t′ ≡ t → l′ ≡ l → a ≡ b → Settled k r d p t l a p′ t′ l′
+  unchanged n is e = known n is e refl refl refl
+
+  pub unknown : NoneTo last (arg r 0) → (b .kernel ≡ k) × (b .reply ≡ replyOf (no FORM)) → p′ ≡ p → t′ ≡ t → l′ ≡ l → a ≡ b → Settled k r d p t l a p′ t′ l′
   unfolding answered
-  promised e = (subst (λ x. Inv (x .state)) (sym e) (keeps (stateOf k) r d z good), e)
-
-  module _ (whole : length r ≡ recordBytes) where
-    pub known : (n : ℕ) → arg r 0 ≡ n → answered a y ≡ command n r d (stateOf k) z → Promised
-    unfolding answerTo choose
-    known n e h = promised (rw (eq-eqb (length r) recordBytes whole, e) h)
-
-  module _ (form : (a .kernel ≡ k) × (a .reply ≡ replyOf (no FORM))) (same : y ≡ z) where
-    pub no-record : (length r ≡ recordBytes → ⊥) → Promised
-    unfolding answered answerTo choose
-    no-record ne = promised (rw (ne-eqb (length r) recordBytes ne, form .0, form .1, same) refl)
-
-    pub unknown : length r ≡ recordBytes → NoneTo last (arg r 0) → Promised
-    unfolding answered answerTo choose
-    unknown whole h = promised (rw (eq-eqb (length r) recordBytes whole, unknown-form (arg r 0) r d (stateOf k) z h, form .0, form .1, same) refl)
+  unknown none form = unchanged (arg r 0) refl (rw (unknown-form (arg r 0) r d (stateOf k) (areas p t l) none, form .0, form .1) refl)

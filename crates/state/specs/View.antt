@@ -34,3 +34,7 @@ areas p t l = record { payloads = p; tables = t; log = l }
 -- What a command gave back, with the areas as it left them.
 unfoldable pub answered : Answered → Areas → Answer
 answered r z = record { state = stateOf (r .kernel); reply = r .reply; areas = z }
+
+-- The same, where a host keeps the kernel and the reply each in its own place.
+abbrev pub told : Kernel → List ℕ → Areas → Answer
+told k reply = answered (record { kernel = k; reply = reply })

@@ -1,5 +1,5 @@
--- A walk of `host::trunhoac_command`: the borrow of the struct is opened and stays open over the call; the struct's value, with what it owns, goes to `answer`, and what `answer` gives is laid
--- in its place. The other borrows are given to `answer` for good. All that the walk knows of `answer` is that it meets its contract.
+-- A walk of `host::trunhoac_command`: the borrow of the struct is opened and stays open over the call; the struct's value, with what it owns, goes to `kernel::answer_to`, and what this gives
+-- is laid in its place. The other borrows are given to `answer_to` for good. All that the walk knows of `answer_to` is that it meets its contract.
 use mathlib.Core.Path.{_≡_, refl}
 use Prim.Native.Nat.{ℕ}
 use mathlib.Core.List.{[], _∷_, List}
@@ -37,16 +37,15 @@ use denote.Triple.Entry.{alive, onEntry}
 use denote.Triple.Spec.{tripleOf}
 use denote.Triple.Walked.{says, needs, Stays, stay-ref, stay-dropped, gave-slice, gave-ref, walkOf, AllGo, goes-ref, goes-dropped, goes-gave-slice, goes-gave-ref, Walks, ends-at, walked}
 use denote.Exit.{yes}
+use Rattle.kernel.proofs.answer_to as callee
+use Rattle.kernel.proofs.answer_to.Symbol as callee-def
+use Rattle.kernel.proofs.answer_to.Symbol.{name as #callee}
+use Rattle.kernel.proofs.answer_to.Met as callee-thm
 use Rattle.machine.specs.Machine.{answerTo}
 use Rattle.state.proofs.Kernel.{the-row as struct}
-use Rattle.state.specs.View.{Good, areas, stateOf}
+use Rattle.state.specs.View.{Good, areas, stateOf, told}
 use Rattle.state.specs.declared.Kernel.{Kernel}
-use Rattle.host.specs.Told.{told}
 use Rattle.host.proofs.Walk.{at-local, in-order, kernel, value, typed, gone, held, handed-with, opened, met}
-use Rattle.host.proofs.answer as callee
-use Rattle.host.proofs.answer.Symbol as callee-def
-use Rattle.host.proofs.answer.Symbol.{name as #callee}
-use Rattle.host.proofs.answer.Met as callee-thm
 use Rattle.host.proofs.trunhoac_command.Key.{name as #f}
 use Rattle.host.proofs.trunhoac_command as f
 use Rattle.host.proofs.trunhoac_command.Statement as stated
@@ -255,5 +254,5 @@ pub trunhoac-command-spec : {M : Type 1} → stated.statement M
 unfolding code.routine
 trunhoac-command-spec 𝓤 H 𝓜 𝓖 𝓡 =
     met 𝓤 H 𝓜 𝓖 𝓡 f.ended (f.clauses 𝓤 H (𝓖 .A) (𝓜 .mem) (𝓡 .run)) stayed code.env #f code.function (Callee 𝓤 H (𝓖 .A) (𝓜 .mem) (𝓡 .run)) #callee callee-def.routine
-    (code.unfolded 𝓤 H 𝓜 𝓡) code.calls-host·answer (callee-thm.met 𝓤 H 𝓜 𝓖 𝓡) (all-go 𝓤 H (𝓖 .A) (givenOf 𝓤 H 𝓜 𝓖) (𝓜 .mem) (𝓡 .run))
+    (code.unfolded 𝓤 H 𝓜 𝓡) code.calls-kernel·answer-to (callee-thm.met 𝓤 H 𝓜 𝓖 𝓡) (all-go 𝓤 H (𝓖 .A) (givenOf 𝓤 H 𝓜 𝓖) (𝓜 .mem) (𝓡 .run))
     (walks 𝓤 H (𝓖 .A) (givenOf 𝓤 H 𝓜 𝓖) (𝓜 .mem) (𝓡 .run) (tables 𝓤 H 𝓜 𝓡 code.env .C) (tables 𝓤 H 𝓜 𝓡 code.env .Λ))
