@@ -15,12 +15,12 @@ use Rattle.state.proofs.Kernel.{the-type}
 -- the arrays of a kernel have their lengths, as its type says
 module _ (k : Kernel) (vs : List Val) (h : Is (row the-type) k vs) where
   pub rings : length (k .counts) ≡ objects
-  rings = sym (length-map (k .counts) (λ v. v)) ∙ h .1 .1 .1 .1 .1 .1 .1 .1 .0 .1 .0 .1
+  rings = sym (length-map (k .counts) (λ v. v)) ∙ h .1 .1 .1 .1 .1 .1 .1 .1 .1 .1 .1 .1 .1 .1 .1 .1 .1 .1 .1 .1 .0 .1 .0 .1
 
   pub mail-of : Mail (k .places) (k .heads) (k .counts)
   mail-of = record {
-    places = rw rings (sym (length-map (k .places) (λ v. v)) ∙ h .1 .1 .1 .1 .1 .1 .0 .1 .0 .1);
-    heads = rw rings (sym (length-map (k .heads) (λ v. v)) ∙ h .1 .1 .1 .1 .1 .1 .1 .0 .1 .0 .1);
+    places = rw rings (sym (length-map (k .places) (λ v. v)) ∙ h .1 .1 .0 .1 .0 .1);
+    heads = rw rings (sym (length-map (k .heads) (λ v. v)) ∙ h .1 .1 .1 .1 .1 .1 .1 .1 .1 .1 .1 .1 .1 .1 .1 .1 .1 .1 .1 .0 .1 .0 .1);
   }
 
   pub side-rings : length (k .«side_counts») ≡ sideQueues
@@ -28,12 +28,12 @@ module _ (k : Kernel) (vs : List Val) (h : Is (row the-type) k vs) where
 
   pub sides-of : Mail (k .«side_places») (k .«side_heads») (k .«side_counts»)
   sides-of = record {
-    places = rw side-rings (sym (length-map (k .«side_places») (λ v. v)) ∙ h .1 .1 .1 .1 .1 .1 .1 .1 .1 .0 .1 .0 .1);
+    places = rw side-rings (sym (length-map (k .«side_places») (λ v. v)) ∙ h .1 .1 .1 .0 .1 .0 .1);
     heads = rw side-rings (sym (length-map (k .«side_heads») (λ v. v)) ∙ h .1 .1 .1 .1 .1 .1 .1 .1 .1 .1 .0 .1 .0 .1);
   }
 
   pub depths-length : length (k .depths) ≡ objects
-  depths-length = sym (length-map (k .depths) (λ v. v)) ∙ h .1 .1 .1 .1 .1 .1 .1 .1 .1 .1 .1 .1 .0 .1 .0 .1
+  depths-length = sym (length-map (k .depths) (λ v. v)) ∙ h .1 .1 .1 .1 .1 .1 .1 .1 .1 .0 .1 .0 .1
 
   -- every object has a mailbox
   pub box-of : (p : ℕ) → 1 ≤ p → p ≤ objects → p - 1 < length (k .counts)

@@ -20,26 +20,26 @@ pub const NO_EVENT: u16 = 0;
 
 #[repr(C)]
 pub struct Kernel {
-    pub pool: Pool,
+    pub places: [u16; ALL_PLACES],
+    pub side_places: [u16; ALL_SIDE_PLACES],
+    pub wants: [u8; ALL_SIGNAL_PLACES],
     pub signals: [u8; BLOCKS],
     pub sizes: [u8; BLOCKS],
     pub holds: [u8; BLOCKS],
-    pub places: [u16; ALL_PLACES],
-    pub heads: [u8; OBJECTS],
-    pub counts: [u8; OBJECTS],
-    pub side_places: [u16; ALL_SIDE_PLACES],
+    pub seats: [u8; OBJECTS],
+    pub depths: [u8; OBJECTS],
     pub side_heads: [u8; SIDE_QUEUES],
     pub side_counts: [u8; SIDE_QUEUES],
-    pub depths: [u8; OBJECTS],
-    pub rests: [u8; OBJECTS],
-    pub seats: [u8; OBJECTS],
-    pub wants: [u8; ALL_SIGNAL_PLACES],
     pub loaded: [u8; SLOTS],
     pub owners: [u8; TIMERS],
     pub alarms: [u8; TIMERS],
     pub counters: [u16; TIMERS],
     pub intervals: [u16; TIMERS],
     pub hand: u16,
+    pub pool: Pool,
+    pub heads: [u8; OBJECTS],
+    pub counts: [u8; OBJECTS],
+    pub rests: [u8; OBJECTS],
 }
 
 pub struct Answered {
@@ -52,26 +52,26 @@ pub fn fresh() -> Kernel
     ensures { λ r. ⌜ Good r ⌝ }
 {
     Kernel {
-        pool: pool::fresh(),
+        places: [0; ALL_PLACES],
+        side_places: [0; ALL_SIDE_PLACES],
+        wants: [0; ALL_SIGNAL_PLACES],
         signals: [0; BLOCKS],
         sizes: [0; BLOCKS],
         holds: [0; BLOCKS],
-        places: [0; ALL_PLACES],
-        heads: [0; OBJECTS],
-        counts: [0; OBJECTS],
-        side_places: [0; ALL_SIDE_PLACES],
+        seats: [0; OBJECTS],
+        depths: [0; OBJECTS],
         side_heads: [0; SIDE_QUEUES],
         side_counts: [0; SIDE_QUEUES],
-        depths: [0; OBJECTS],
-        rests: [0; OBJECTS],
-        seats: [0; OBJECTS],
-        wants: [0; ALL_SIGNAL_PLACES],
         loaded: [0; SLOTS],
         owners: [0; TIMERS],
         alarms: [0; TIMERS],
         counters: [0; TIMERS],
         intervals: [0; TIMERS],
         hand: NO_EVENT,
+        pool: pool::fresh(),
+        heads: [0; OBJECTS],
+        counts: [0; OBJECTS],
+        rests: [0; OBJECTS],
     }
 }
 
