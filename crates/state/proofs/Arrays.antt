@@ -17,10 +17,13 @@ module _ (k : Kernel) (vs : List Val) (h : Is (row the-type) k vs) where
   pub rings : length (k .counts) ≡ objects
   rings = sym (length-map (k .counts) (λ v. v)) ∙ h .1 .1 .1 .1 .1 .1 .1 .1 .1 .1 .1 .1 .1 .1 .1 .1 .1 .1 .1 .1 .0 .1 .0 .1
 
+  pub heads-length : length (k .heads) ≡ objects
+  heads-length = sym (length-map (k .heads) (λ v. v)) ∙ h .1 .1 .1 .1 .1 .1 .1 .1 .1 .1 .1 .1 .1 .1 .1 .1 .1 .1 .1 .0 .1 .0 .1
+
   pub mail-of : Mail (k .places) (k .heads) (k .counts)
   mail-of = record {
     places = rw rings (sym (length-map (k .places) (λ v. v)) ∙ h .1 .1 .0 .1 .0 .1);
-    heads = rw rings (sym (length-map (k .heads) (λ v. v)) ∙ h .1 .1 .1 .1 .1 .1 .1 .1 .1 .1 .1 .1 .1 .1 .1 .1 .1 .1 .1 .0 .1 .0 .1);
+    heads = heads-length ∙ sym rings;
   }
 
   pub side-rings : length (k .«side_counts») ≡ sideQueues

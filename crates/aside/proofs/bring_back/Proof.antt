@@ -1,8 +1,8 @@
 use borrow.Author.Needs.{needs}
-use mathlib.Core.Path.{refl}
+use mathlib.Core.Path.{refl, sym}
 use native.Mathlib.Omega.{arith}
 use Rattle.machine.specs.Aside.{recalled}
-use Rattle.state.proofs.Arrays.{mail-of, box-of, side-rings, sides-of}
+use Rattle.state.proofs.Arrays.{box-of, heads-length, mail-of, rings, side-rings, sides-of}
 use Rattle.state.specs.View.{stateOf}
 use Rattle.aside.proofs.Queues.{aside-is}
 use Rattle.aside.proofs.bring_back.Statement.{statement}
@@ -29,5 +29,5 @@ returns c =
 pub bring-back-spec : {M : Type 1} → statement M
 bring-back-spec =
     tie.close
-    (tie.spec (λ c. search needs) (λ c. search needs) (λ c. search needs) take-front-requires (λ c. search needs) (λ c. search needs) (λ c. search needs) (λ c. search needs)
+    (tie.spec (λ c. search needs) (λ c. search needs) (λ c. search needs) take-front-requires (λ c. search needs) (λ c. sym (heads-length (c .before .before .before .before .before .before .before .before .before .before .before .before .before .before .args .k) _ (c .before .before .before .before .before .before .before .before .before .before .before .before .before .before .good .0))) (λ c. sym (rings (c .before .before .before .before .before .before .before .before .before .before .before .before .before .before .before .args .k) _ (c .before .before .before .before .before .before .before .before .before .before .before .before .before .before .before .good .0))) (λ c. search needs)
     push-front-requires returns)

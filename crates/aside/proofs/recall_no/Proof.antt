@@ -1,5 +1,6 @@
 use borrow.Author.Needs.{needs}
-use mathlib.Core.Path.{_∙_}
+use mathlib.Core.Path.{sym, _∙_}
+use Rattle.state.proofs.Arrays.{rings}
 use Rattle.aside.proofs.Queues.{recall-tests}
 use Rattle.aside.proofs.recall_no.Statement.{statement}
 use Rattle.aside.proofs.recall_no.Tie as tie
@@ -16,4 +17,4 @@ returns c =
     (c .before .room-of .ensures)
 
 pub recall-no-spec : {M : Type 1} → statement M
-recall-no-spec = tie.close (tie.spec (λ c. search needs) (λ c κs. search needs) (λ c. search needs) (λ c κs. search needs) (λ c κs. search needs) (λ c κs. search needs) returns)
+recall-no-spec = tie.close (tie.spec (λ c. search needs) (λ c κs. search needs) (λ c. sym (rings (c .before .before .before .before .before .args .k) _ (c .before .before .before .before .before .good .0))) (λ c κs. search needs) (λ c κs. search needs) (λ c κs. search needs) returns)

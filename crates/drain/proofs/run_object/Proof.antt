@@ -9,7 +9,6 @@ use lib.ListN.{length, getD, drop, take, length-drop, length-set}
 use lib.Seq.{take-all}
 use Rattle.chart.specs.Flat.{place, sound}
 use Rattle.chart.specs.Numbers.{rowSize, slotSize}
-
 use Rattle.machine.proofs.KeepsCharts.{sound-row}
 use Rattle.machine.proofs.Replies.{reply-length}
 use Rattle.machine.proofs.Run.{fit-now, fit-on, run-end, run-stop, run-step}

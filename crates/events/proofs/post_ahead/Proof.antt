@@ -1,8 +1,8 @@
 use borrow.Author.Needs.{needs}
-use mathlib.Core.Path.{refl}
+use mathlib.Core.Path.{refl, sym}
 use Rattle.machine.specs.Events.{postedFront}
 use Rattle.mail.specs.Entry.{entryOf}
-use Rattle.state.proofs.Arrays.{mail-of, box-of}
+use Rattle.state.proofs.Arrays.{box-of, mail-of, rings}
 use Rattle.state.specs.View.{stateOf}
 use Rattle.events.proofs.post_ahead.Statement.{statement}
 use Rattle.events.proofs.post_ahead.Tie as tie
@@ -18,4 +18,4 @@ unfolding stateOf postedFront entryOf
 returns c = rw (c .add .ensures .0, c .add .ensures .1, c .before .before .before .before .push-front .ensures .0 .are) refl
 
 pub post-ahead-spec : {M : Type 1} → statement M
-post-ahead-spec = tie.close (tie.spec (λ c. search needs) (λ c. search needs) (λ c. search needs) (λ c. search needs) (λ c. search needs) (λ c. search needs) push-front-requires (λ c κs. search needs) returns)
+post-ahead-spec = tie.close (tie.spec (λ c. search needs) (λ c. search needs) (λ c. sym (rings (c .before .before .before .before .before .before .args .k) _ (c .before .before .before .before .before .before .good .0))) (λ c. search needs) (λ c. search needs) (λ c. search needs) push-front-requires (λ c κs. search needs) returns)

@@ -1,5 +1,6 @@
 use borrow.Author.Needs.{needs}
-use mathlib.Core.Path.{_∙_}
+use mathlib.Core.Path.{sym, _∙_}
+use Rattle.state.proofs.Arrays.{rings}
 use Rattle.events.proofs.Posts.{post-tests}
 use Rattle.events.proofs.post_no.Statement.{statement}
 use Rattle.events.proofs.post_no.Tie as tie
@@ -15,4 +16,4 @@ returns c =
     (c .before .before .room-of .ensures)
 
 pub post-no-spec : {M : Type 1} → statement M
-post-no-spec = tie.close (tie.spec (λ c. search needs) (λ c κs. search needs) (λ c. search needs) (λ c κs. search needs) (λ c κs. search needs) (λ c κs. search needs) (λ c κs. search needs) returns)
+post-no-spec = tie.close (tie.spec (λ c. search needs) (λ c κs. search needs) (λ c. sym (rings (c .before .before .before .before .before .args .k) _ (c .before .before .before .before .before .good .0))) (λ c κs. search needs) (λ c κs. search needs) (λ c κs. search needs) (λ c κs. search needs) returns)

@@ -1,10 +1,10 @@
 use borrow.Author.Needs.{needs}
 use mathlib.Core.List.{[]}
-use mathlib.Core.Path.{_≡_, refl}
+use mathlib.Core.Path.{_≡_, refl, sym}
 use Rattle.drain.proofs.Laws.{coming-is}
 use Rattle.machine.specs.Steps.{coming}
 use Rattle.mail.specs.Entry.{handOf}
-use Rattle.state.proofs.Arrays.{mail-of, box-of}
+use Rattle.state.proofs.Arrays.{box-of, heads-length, mail-of, rings}
 use Rattle.state.specs.View.{stateOf}
 use Rattle.steps.proofs.Runs.{generations-of}
 use Rattle.steps.proofs.coming.Statement.{statement}
@@ -33,4 +33,4 @@ returns c =
 pub coming-spec : {M : Type 1} → statement M
 coming-spec =
     tie.close
-    (tie.spec (λ c κs. search needs) (λ c. search needs) (λ c. search needs) (λ c. search needs) (λ c. search needs) front-requires look-requires returns)
+    (tie.spec (λ c κs. search needs) (λ c. search needs) (λ c. sym (heads-length (c .before .before .before .before .before .before .before .args .k) _ (c .before .before .before .before .before .before .before .good .0))) (λ c. sym (rings (c .before .before .before .before .before .before .before .before .args .k) _ (c .before .before .before .before .before .before .before .before .good .0))) (λ c. search needs) front-requires look-requires returns)

@@ -117,6 +117,6 @@ returns-3 c = λ p l.
 pub next-spec : {M : Type 1} → statement M
 next-spec =
     tie.close
-    (tie.spec (λ c. search needs) (λ c κs. search needs) (λ c κs. search needs) (λ c κs. search needs) (λ c κs. search needs) returns
+    (tie.spec (λ c. sym (rings (c .before .before .before .args .k) _ (c .before .before .before .good .0))) (λ c κs. search needs) (λ c κs. search needs) (λ c κs. search needs) (λ c κs. search needs) returns
     (λ c κs. (with-mail c, (object (c .before), fit c))) row-at-requires (λ c. omega (arith, within c)) (λ c. search needs) (λ c. search needs) part-row-end
     (λ c κs. search needs) (λ c κs. search needs) returns-2 next-done-requires returns-3)
