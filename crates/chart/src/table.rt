@@ -32,7 +32,7 @@ fn less(x: u8, y: u8) -> usize
 }
 
 // The number of the row for state s and signal g, behind the start row.
-pub fn row_number(s: u8, g: u8) -> usize
+fn row_number(s: u8, g: u8) -> usize
     ensures { λ r. ⌜ (r ≡ rowNumber s g) × (r < 8192) ⌝ }
 {
     SIGNALS * less(s, 1) + less(g, FIRST_SIGNAL)

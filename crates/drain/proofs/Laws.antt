@@ -1,35 +1,32 @@
--- What a step finds, and what it makes of the run.
+-- What a step finds: the object that is to run, its event and its row; and the line of the log that it writes.
 use mathlib.Core.Bool.{true, false}
 use mathlib.Core.List.{List, []}
 use mathlib.Core.Logic.{⊎-elim}
 use mathlib.Core.Path.{_≡_, refl, sym, ap, _∙_}
-use Prim.Native.Nat.{ℕ, zero, suc, _+_, _*_, _-_, _<_, _≤_, min}
+use Prim.Native.Nat.{ℕ, zero, suc, _+_, _*_, _-_, _<_, _≤_}
 use native.Mathlib.Omega.{arith}
 use borrow.Author.Tests.{eq-eqb, ne-eqb}
 use borrow.Rule.Slice.PartMut.{putMid, midOf}
 use lib.Dec.{eqb}
-use lib.ListN.{length, getD, set, take, drop, length-drop, List·getD-eq-default}
-use lib.Seq.{drop-drop, getD-set-same, length-take-le, set-set}
-use Rattle.chart.specs.Flat.{place, rowAt, sound}
+use lib.ListN.{length, getD, take, drop, length-drop, List·getD-eq-default}
+use lib.Seq.{drop-drop, length-take-le}
+use Rattle.chart.specs.Flat.{place, sound}
 use Rattle.chart.specs.Numbers.{firstSignal, rowSize, slotSize}
 use Rattle.ground.specs.Bools.{eq-or}
 use Rattle.ground.specs.Parts.{part-over}
 use Rattle.ground.specs.Tab.{getD-tab}
 use Rattle.machine.proofs.KeepsCharts.{sound-row}
-use Rattle.machine.specs.Inv.{IsEvent, IsSignal}
 use Rattle.machine.specs.Numbers.{objects, signalPlaces, tableBytes, mostSteps, logBytes, replyBytes}
-use Rattle.machine.specs.Reply.{IDLE, TABLE, lowest, over, replyOf, ran}
-use Rattle.machine.specs.Run.{Run, Fit, onward, seen}
+use Rattle.machine.specs.Reply.{IDLE, TABLE, lowest, over}
+use Rattle.machine.specs.Run.{Run, Fit, seen}
 use Rattle.machine.specs.State.{State, restOf, slotOf}
-use Rattle.machine.specs.Steps.{toRun, coming, signalOf, handle₁, nextRow, nextSays, stepTests, logged}
-use Rattle.mail.specs.Box.{boxAt, front, highest, highestOf, tookFirst, tookFront, rest}
+use Rattle.machine.specs.Steps.{toRun, coming, nextRow, stepTests}
+use Rattle.mail.specs.Box.{boxAt, front, highest, highestOf}
 use Rattle.mail.specs.Entry.{handOf}
-use Rattle.mail.specs.Laws.{changed-here, changed-other, first-front, first-length, first-more, mail-within, rest-length}
 use Rattle.mail.specs.View.{boxes, boxes-length, queued-in}
 use Rattle.pool.specs.Cell.{free, absent, generationOf}
-use Rattle.pool.specs.Laws.{once-more-set}
-use Rattle.pool.specs.Row.{blocks, firstBytes, generationAt, onceMore}
-use Rattle.drain.specs.Lent.{Above, Generations, Looks, Runs, midway}
+use Rattle.pool.specs.Row.{blocks, generationAt}
+use Rattle.drain.specs.Lent.{Above, Generations, Looks, Runs}
 use Rattle.drain.specs.declared.Coming.{Coming}
 
 -- line n of the log: the part that it takes, and how that comes back

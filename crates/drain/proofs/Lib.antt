@@ -1,3 +1,3 @@
--- Laws: what a step finds, and what it makes of the arrays.
+-- Laws: what a step finds. Midway: the run in the midst of one object's steps, and a step more of it.
 pub mod Laws
 pub mod Midway

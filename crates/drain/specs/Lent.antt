@@ -4,7 +4,7 @@ use mathlib.Core.Path.{_≡_}
 use Prim.Native.Nat.{ℕ, _-_, _<_, _≤_}
 use lib.ListN.{length, getD, set}
 use Rattle.chart.specs.Numbers.{rowSize}
-use Rattle.machine.specs.Numbers.{objects, signalPlaces, logBytes}
+use Rattle.machine.specs.Numbers.{objects, signalPlaces, tableBytes, mostSteps, logBytes}
 use Rattle.machine.specs.Run.{Run, FitRun, runFrom}
 use Rattle.machine.specs.State.{State}
 use Rattle.machine.specs.Steps.{signalOf, handle₁, handle₂}
@@ -57,6 +57,17 @@ midway places heads counts rests times log q from rest n = record {
 -- No object from p on, counted from 0, has mail.
 abbrev pub Above : ℕ → List (List ℕ) → Type 0
 Above p bs = (q : ℕ) → p ≤ q → length (boxAt bs q) ≡ 0
+
+-- What the steps of object p, counted from 1, begin with, as step n of a run within a budget: no higher object has mail.
+pub record Ready (gens signals seats tables pl hs cs rs ts lg : List ℕ) (p budget n : ℕ) : Type 0 where
+  pub sized : Sized pl hs cs rs ts lg n
+  pub long : length tables ≡ tableBytes
+  pub most : budget ≤ mostSteps
+  pub within : n ≤ budget
+  pub low : 0 < p
+  pub high : p ≤ objects
+  pub above : Above p (boxes pl hs cs)
+  pub fit : FitRun gens signals seats tables (runAt pl hs cs rs ts lg n)
 
 -- The steps of object p, counted from 1, from the run x to the run y, within a budget: what is left to run from y is what was left from x.
 -- If the object still has mail, nothing is left.

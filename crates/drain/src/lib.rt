@@ -7,14 +7,14 @@ ghost use Prim.Native.Nat.{ℕ, _-_, _<_, _≤_};
 ghost use lib.Dec.{eqb, ltb};
 ghost use lib.ListN.{getD, length, set};
 ghost use Rattle.machine.specs.Inv.{IsEvent};
-ghost use Rattle.machine.specs.Numbers.{tableBytes, mostSteps, objects};
+ghost use Rattle.machine.specs.Numbers.{tableBytes, mostSteps};
 ghost use Rattle.machine.specs.Reply.{replyOf, ran};
 ghost use Rattle.machine.specs.Run.{FitRun, blockOf, runFrom};
 ghost use Rattle.machine.specs.State.{State};
 ghost use Rattle.mail.specs.Box.{highest, tookFirst};
 ghost use Rattle.mail.specs.Entry.{handOf};
 ghost use Rattle.mail.specs.View.{Holds, Mail, boxes};
-ghost use Rattle.drain.specs.Lent.{Above, Generations, Looks, Runs, Sized, Stretch, runAt};
+ghost use Rattle.drain.specs.Lent.{Generations, Looks, Ready, Runs, Sized, Stretch, runAt};
 use ground::copy;
 use ground::least;
 use ground::wide;
@@ -126,9 +126,8 @@ fn run_object(
     p: usize,
     from: usize,
 ) -> usize
-    requires { ⌜ Sized (now places) (now heads) (now counts) (now rests) (now times) (now log) from × (length (now tables) ≡ tableBytes) × (budget ≤ mostSteps) ⌝ }
-    requires { ⌜ (from ≤ budget) × (0 < p) × (p ≤ objects) × Above p (boxes (now places) (now heads) (now counts)) × (0 < getD (now counts) (p - 1) 0) ⌝ }
-    requires { ⌜ FitRun (now gens) (now signals) (now seats) (now tables) (runAt (now places) (now heads) (now counts) (now rests) (now times) (now log) from) ⌝ }
+    requires { ⌜ Ready (now gens) (now signals) (now seats) (now tables) (now places) (now heads) (now counts) (now rests) (now times) (now log) p budget from ⌝ }
+    requires { ⌜ 0 < getD (now counts) (p - 1) 0 ⌝ }
     ensures { λ r. ⌜ Stretch (now (gens .entry)) (now (signals .entry)) (now (seats .entry)) (now (tables .entry)) p budget
         (runAt (now (places .entry)) (now (heads .entry)) (now (counts .entry)) (now (rests .entry)) (now (times .entry)) (now (log .entry)) from)
         (runAt (now (places .entry)) (now (heads .exit)) (now (counts .exit)) (now (rests .exit)) (now (times .exit)) (now (log .exit)) r) ⌝ }
@@ -178,9 +177,7 @@ fn turn(
     p: usize,
     from: usize,
 ) -> usize
-    requires { ⌜ Sized (now places) (now heads) (now counts) (now rests) (now times) (now log) from × (length (now tables) ≡ tableBytes) × (budget ≤ mostSteps) ⌝ }
-    requires { ⌜ (from ≤ budget) × (0 < p) × (p ≤ objects) × Above p (boxes (now places) (now heads) (now counts)) ⌝ }
-    requires { ⌜ FitRun (now gens) (now signals) (now seats) (now tables) (runAt (now places) (now heads) (now counts) (now rests) (now times) (now log) from) ⌝ }
+    requires { ⌜ Ready (now gens) (now signals) (now seats) (now tables) (now places) (now heads) (now counts) (now rests) (now times) (now log) p budget from ⌝ }
     ensures { λ r. ⌜ Stretch (now (gens .entry)) (now (signals .entry)) (now (seats .entry)) (now (tables .entry)) p budget
         (runAt (now (places .entry)) (now (heads .entry)) (now (counts .entry)) (now (rests .entry)) (now (times .entry)) (now (log .entry)) from)
         (runAt (now (places .entry)) (now (heads .exit)) (now (counts .exit)) (now (rests .exit)) (now (times .exit)) (now (log .exit)) r) ⌝ }

@@ -18,6 +18,7 @@ use pool::Pool;
 // The entry in hand while no step is open.
 pub const NO_EVENT: u16 = 0;
 
+// What steps change stands last and all else before it, so that the compiler copies that in one piece.
 #[repr(C)]
 pub struct Kernel {
     pub places: [u16; ALL_PLACES],

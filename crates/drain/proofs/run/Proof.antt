@@ -1,6 +1,6 @@
 use borrow.Author.Needs.{needs}
 use mathlib.Core.Path.{_≡_, refl, sym, _∙_}
-use Prim.Native.Nat.{_-_, _<_, _≤_}
+use Prim.Native.Nat.{_-_, _≤_}
 use native.Mathlib.Omega.{arith}
 use Rattle.machine.proofs.Run.{run-stop}
 use Rattle.machine.specs.Numbers.{objects}
@@ -36,7 +36,16 @@ turn-requires : tie.Need-turn-requires Inv-loop μ-loop
 turn-requires c κs =
     let s = c .before .before .before .before .before .before .before .before .before in
     let v = c .before .before .before .before .before .before .loop .inv in
-    ((v .2, s .pre .0 .1, s .pre .0 .2), ((v .1, c .before .before .before .before .before .loop-test .taken, v .0, v .4), v .3))
+    record {
+      sized = v .2;
+      long = s .pre .0 .1;
+      most = s .pre .0 .2;
+      within = v .1;
+      low = c .before .before .before .before .before .loop-test .taken;
+      high = v .0;
+      above = v .4;
+      fit = v .3;
+    }
 
 returns : tie.Need-returns Inv-loop μ-loop
 returns c =

@@ -5,15 +5,15 @@ use mathlib.Core.Bool.{true, false}
 use mathlib.Core.Path.{_≡_, refl, sym, ap, _∙_}
 use Prim.Native.Nat.{_+_, _*_, _-_, _<_, _≤_, min}
 use native.Mathlib.Omega.{arith}
-use lib.ListN.{length, getD, drop, take, length-drop, length-set}
+use lib.ListN.{length, getD, drop, take, length-drop}
 use lib.Seq.{take-all}
 use Rattle.chart.specs.Flat.{place, sound}
 use Rattle.chart.specs.Numbers.{rowSize, slotSize}
 use Rattle.machine.proofs.KeepsCharts.{sound-row}
 use Rattle.machine.proofs.Replies.{reply-length}
 use Rattle.machine.proofs.Run.{fit-now, fit-on, run-end, run-stop, run-step}
-use Rattle.machine.specs.Numbers.{mostSteps, objects, replyBytes}
-use Rattle.machine.specs.Run.{Fit, FitRun, Run, onward, runFrom, seen}
+use Rattle.machine.specs.Numbers.{mostSteps, replyBytes}
+use Rattle.machine.specs.Run.{Fit, FitRun, Run, runFrom, seen}
 use Rattle.machine.specs.State.{State, slotOf, restOf}
 use Rattle.machine.specs.Steps.{coming, nextRow, toRun}
 use Rattle.mail.specs.Entry.{handOf}
@@ -56,30 +56,30 @@ begins c =
     let a = s .args in
     rw (c .wide .ensures .0)
     (slot-begins (a .gens .now) (a .signals .now) (a .seats .now) (a .tables .now) (a .places .now) (a .heads .now) (a .counts .now) (a .rests .now) (a .times .now) (a .log .now) (a .p) (a .from)
-    (s .pre .1 .1) (s .pre .1 .0 .3) (s .pre .1 .0 .1) (omega (arith, s .pre .1 .0 .2, s .pre .0 .0 .counts)) (s .pre .1 .0 .4) (s .pre .0 .1))
+    (s .pre .0 .fit) (s .pre .0 .above) (s .pre .0 .low) (omega (arith, s .pre .0 .high, s .pre .0 .sized .counts)) (s .pre .1) (s .pre .0 .long))
 
 module _ (e : tie.After-entry Inv-loop μ-loop) where
   among : e .before .before .before .before .before .before .before .before .before .before .before .before .before .before .before .before .before .args .p - 1 < length (e .before .before .before .before .before .before .before .loop .counts)
-  among = let r = e .before .before .before .before .before .before .before .before .before .before .before .before .before .before .before .before .before .pre .1 .0 in omega (arith, r .1, r .2, e .before .before .before .before .before .before .before .loop .inv .4 .counts)
+  among = let r = e .before .before .before .before .before .before .before .before .before .before .before .before .before .before .before .before .before .pre .0 in omega (arith, r .low, r .high, e .before .before .before .before .before .before .before .loop .inv .4 .counts)
 
   highest-now : e .before .before .before .before .before .before .before .before .before .before .before .before .before .before .before .before .before .args .p ≡ toRun (here e)
   highest-now =
       let s = e .before .before .before .before .before .before .before .before .before .before .before .before .before .before .before .before .before in
       let a = s .args in
       let l = e .before .before .before .before .before .before .before .loop in
-      top (a .gens .now) (a .signals .now) (a .seats .now) (a .tables .now) (a .places .now) (l .heads) (l .counts) (l .rests) (l .times) (l .log) (a .p) (a .from) (l .rest) (l .n) among (l .inv .2) _ (a .budget) (l .inv .3) (e .before .before .before .before .before .before .loop-test .taken) (l .inv .0) (s .pre .1 .0 .1)
+      top (a .gens .now) (a .signals .now) (a .seats .now) (a .tables .now) (a .places .now) (l .heads) (l .counts) (l .rests) (l .times) (l .log) (a .p) (a .from) (l .rest) (l .n) among (l .inv .2) _ (a .budget) (l .inv .3) (e .before .before .before .before .before .before .loop-test .taken) (l .inv .0) (s .pre .0 .low)
 
   left : e .before .before .before .before .before .before .before .loop .n - e .before .before .before .before .before .before .before .before .before .before .before .before .before .before .before .before .before .args .from < getD (e .before .before .before .before .before .before .before .loop .counts) (e .before .before .before .before .before .before .before .before .before .before .before .before .before .before .before .before .before .args .p - 1) 0
   left =
       let s = e .before .before .before .before .before .before .before .before .before .before .before .before .before .before .before .before .before in
       let a = s .args in
       let l = e .before .before .before .before .before .before .before .loop in
-      some-left (a .gens .now) (a .signals .now) (a .seats .now) (a .tables .now) (a .places .now) (l .heads) (l .counts) (l .rests) (l .times) (l .log) (a .p) (a .from) (l .rest) (l .n) among (l .inv .2) _ (a .budget) (l .inv .3) (e .before .before .before .before .before .before .loop-test .taken) (l .inv .0) (s .pre .1 .0 .1)
+      some-left (a .gens .now) (a .signals .now) (a .seats .now) (a .tables .now) (a .places .now) (l .heads) (l .counts) (l .rests) (l .times) (l .log) (a .p) (a .from) (l .rest) (l .n) among (l .inv .2) _ (a .budget) (l .inv .3) (e .before .before .before .before .before .before .loop-test .taken) (l .inv .0) (s .pre .0 .low)
 
   fit : Fit (here e)
   fit =
       let a = e .before .before .before .before .before .before .before .before .before .before .before .before .before .before .before .before .before .args in
-      fit-now (a .gens .now) (a .signals .now) (a .seats .now) (a .tables .now) _ (e .before .before .before .before .before .before .before .loop .inv .5) (omega (arith, highest-now, e .before .before .before .before .before .before .before .before .before .before .before .before .before .before .before .before .before .pre .1 .0 .1))
+      fit-now (a .gens .now) (a .signals .now) (a .seats .now) (a .tables .now) _ (e .before .before .before .before .before .before .before .loop .inv .5) (omega (arith, highest-now, e .before .before .before .before .before .before .before .before .before .before .before .before .before .before .before .before .before .pre .0 .low))
 
   event : handOf (e .entry .result) ≡ coming (here e)
   event =
@@ -121,14 +121,14 @@ module _ (c : tie.After-row-place Inv-loop μ-loop) where
   row-within : let t = c .before .before .before .before .before .before .before .before .before .before .before .before .before .before .before .before .before .before .before .args .tables .now in c .row-place .result + rowSize ≤ length t - slotSize * slotOf (here (c .before .before)) (c .before .before .before .before .before .before .before .before .before .before .before .before .before .before .before .before .before .before .before .args .p)
   row-within =
       rw length-drop at (slot-row-end (here (c .before .before)) (c .before .before .before .before .before .before .before .before .before .before .before .before .before .before .before .before .before .before .before .args .tables .now) (c .before .before .before .before .before .before .before .before .before .before .before .before .before .before .before .before .before .before .before .args .p) (highest-now (c .before .before)) (c .before .look .result) (looked (c .before)) (fit (c .before .before))
-      (drop (slotSize * slotOf (here (c .before .before)) (c .before .before .before .before .before .before .before .before .before .before .before .before .before .before .before .before .before .before .before .args .p)) (c .before .before .before .before .before .before .before .before .before .before .before .before .before .before .before .before .before .before .before .args .tables .now)) refl _ place-is (c .before .before .before .before .before .before .before .before .before .before .before .before .before .before .before .before .before .before .before .pre .0 .1))
+      (drop (slotSize * slotOf (here (c .before .before)) (c .before .before .before .before .before .before .before .before .before .before .before .before .before .before .before .before .before .before .before .args .p)) (c .before .before .before .before .before .before .before .before .before .before .before .before .before .before .before .before .before .before .before .args .tables .now)) refl _ place-is (c .before .before .before .before .before .before .before .before .before .before .before .before .before .before .before .before .before .before .before .pre .0 .long))
 
   -- a step stands before the end of the log
   few-steps : c .before .before .before .before .before .before .before .before .before .loop .n < mostSteps
-  few-steps = omega (arith, c .before .before .before .before .before .before .before .before .loop-test .taken, c .before .before .before .before .before .before .before .before .before .loop .inv .3, c .before .before .before .before .before .before .before .before .before .before .before .before .before .before .before .before .before .before .before .pre .0 .2)
+  few-steps = omega (arith, c .before .before .before .before .before .before .before .before .loop-test .taken, c .before .before .before .before .before .before .before .before .before .loop .inv .3, c .before .before .before .before .before .before .before .before .before .before .before .before .before .before .before .before .before .before .before .pre .0 .most)
 
   some : c .before .before .before .before .before .before .before .before .before .before .before .before .before .before .before .before .before .before .before .args .p ≡ 0 → ⊥
-  some z = omega (arith, c .before .before .before .before .before .before .before .before .before .before .before .before .before .before .before .before .before .before .before .pre .1 .0 .1)
+  some z = omega (arith, c .before .before .before .before .before .before .before .before .before .before .before .before .before .before .before .before .before .before .before .pre .0 .low)
 
 sub-slot : tie.Need-sub-slot Inv-loop μ-loop
 sub-slot c = omega (arith, begins c)
@@ -145,11 +145,11 @@ loop-holds c =
     let a = s .args in
     let first = at-first (a .places .now) (a .heads .now) (a .counts .now) (a .rests .now) (a .times .now) (a .log .now) (a .p - 1) (a .from) in (
       omega arith,
-      rw (c .before .least .ensures) (omega (arith, s .pre .1 .0 .0)),
-      s .pre .1 .0 .3,
+      rw (c .before .least .ensures) (omega (arith, s .pre .0 .within)),
+      s .pre .0 .above,
       rw (c .before .least .ensures, c .before .before .wide2 .ensures .0) refl,
-      s .pre .0 .0,
-      rw first at (s .pre .1 .1),
+      s .pre .0 .sized,
+      rw first at (s .pre .0 .fit),
       rw (← first) refl,
     )
 
@@ -163,12 +163,12 @@ row-place-requires c κs =
     (rw (← highest-now (c .before), rests c) at (f .rested), low-signal (here (c .before)) (c .before .before .before .before .before .before .before .before .before .before .before .before .before .before .before .before .before .before .args .tables .now) p (highest-now (c .before)) (c .look .result) (looked c) f)
 
 add-row : tie.Need-add-row Inv-loop μ-loop
-add-row c = omega (arith, row-within c, c .before .before .before .before .before .before .before .before .before .before .before .before .before .before .before .before .before .before .before .pre .0 .1)
+add-row c = omega (arith, row-within c, c .before .before .before .before .before .before .before .before .before .before .before .before .before .before .before .before .before .before .before .pre .0 .long)
 
 part-row-end : tie.Need-part-row-end Inv-loop μ-loop
 part-row-end c =
     let s = c .before .before .before .before .before .before .before .before .before .before .before .before .before .before .before .before .before .before .before in
-    omega (arith, slot-row-end (here (c .before .before)) (s .args .tables .now) (s .args .p) (highest-now (c .before .before)) (c .before .look .result) (looked (c .before)) (fit (c .before .before)) _ (slot-is c) _ (place-is c) (s .pre .0 .1))
+    omega (arith, slot-row-end (here (c .before .before)) (s .args .tables .now) (s .args .p) (highest-now (c .before .before)) (c .before .look .result) (looked (c .before)) (fit (c .before .before)) _ (slot-is c) _ (place-is c) (s .pre .0 .long))
 
 settle-requires : tie.Need-settle-requires Inv-loop μ-loop
 settle-requires c κs =
@@ -176,7 +176,7 @@ settle-requires c κs =
     (among e, e .before .before .before .before .before .before .before .loop .inv .4 .mail .heads, omega (arith, left e))
 
 same-length : tie.Need-same-length Inv-loop μ-loop
-same-length c = c .before .before .before .before .before .before .before .before .before .before .before .before .before .before .before .before .loop .inv .4 .log ∙ sym (c .before .before .before .before .before .before .before .before .before .before .before .before .before .before .before .before .before .before .before .before .before .before .before .before .before .before .pre .0 .0 .log)
+same-length c = c .before .before .before .before .before .before .before .before .before .before .before .before .before .before .before .before .loop .inv .4 .log ∙ sym (c .before .before .before .before .before .before .before .before .before .before .before .before .before .before .before .before .before .before .before .before .before .before .before .before .before .before .pre .0 .sized .log)
 
 returns : tie.Need-returns Inv-loop μ-loop
 returns c =
@@ -192,7 +192,7 @@ returns c =
     record {
       within = omega (arith, l .inv .1, l .inv .3);
       fit = l .inv .5;
-      above = above-is (a .gens .now) (a .signals .now) (a .seats .now) (a .tables .now) (a .places .now) (l .heads) (l .counts) (l .rests) (l .times) (l .log) (a .p) (a .from) (l .rest) (l .n) (among e) (s .pre .1 .0 .1) (l .inv .2);
+      above = above-is (a .gens .now) (a .signals .now) (a .seats .now) (a .tables .now) (a .places .now) (l .heads) (l .counts) (l .rests) (l .times) (l .log) (a .p) (a .from) (l .rest) (l .n) (among e) (s .pre .0 .low) (l .inv .2);
       same = l .inv .6;
       ended = λ ne. run-stop (a .gens .now) (a .signals .now) (a .seats .now) (a .tables .now) (mid e) (a .budget - l .n) (λ z. omega (arith, i));
     } in
@@ -208,7 +208,7 @@ answer-requires c κs =
     let k = c .before .before .before .before in
     let e = k .before .before in
     let s = e .before .before .before .before .before .before .before .before .before .before .before .before .before .before .before .before .before in
-    runs (here e) (s .args .tables .now) (s .args .p) (highest-now e) (c .before .before .before .before .before .look .result) (looked (k .before)) (fit e) (s .pre .1 .0 .2) _ (sym (c .before .before .sound .ensures) ∙ not-false _ (c .before .if1 .left))
+    runs (here e) (s .args .tables .now) (s .args .p) (highest-now e) (c .before .before .before .before .before .look .result) (looked (k .before)) (fit e) (s .pre .0 .high) _ (sym (c .before .before .sound .ensures) ∙ not-false _ (c .before .if1 .left))
 
 mul-copy : tie.Need-mul-copy Inv-loop μ-loop
 mul-copy c = omega (arith, few-steps (c .before .before .before .before .before))
@@ -280,10 +280,10 @@ settle-requires-2 : tie.Need-settle-requires-2 Inv-loop μ-loop
 settle-requires-2 c κs =
     let s = c .before .before .before .before .before .before .before .before .before .before .before .before .before .before in
     let v = c .before .before .before .before .loop .inv in
-    (omega (arith, s .pre .1 .0 .1, s .pre .1 .0 .2, v .4 .counts), v .4 .mail .heads, omega (arith, v .0, v .1, v .3))
+    (omega (arith, s .pre .0 .low, s .pre .0 .high, v .4 .counts), v .4 .mail .heads, omega (arith, v .0, v .1, v .3))
 
 same-length-2 : tie.Need-same-length-2 Inv-loop μ-loop
-same-length-2 c = c .before .before .before .before .before .loop .inv .4 .log ∙ sym (c .before .before .before .before .before .before .before .before .before .before .before .before .before .before .before .pre .0 .0 .log)
+same-length-2 c = c .before .before .before .before .before .loop .inv .4 .log ∙ sym (c .before .before .before .before .before .before .before .before .before .before .before .before .before .before .before .pre .0 .sized .log)
 
 returns-2 : tie.Need-returns-2 Inv-loop μ-loop
 returns-2 c =
@@ -292,13 +292,13 @@ returns-2 c =
     let l = c .before .before .before .before .before .loop in
     let v = l .inv in
     let x = midway (a .places .now) (l .heads) (l .counts) (l .rests) (l .times) (l .log) (a .p - 1) (a .from) (l .rest) (l .n) in
-    let in-range : a .p - 1 < length (l .counts) = omega (arith, s .pre .1 .0 .1, s .pre .1 .0 .2, v .4 .counts) in
+    let in-range : a .p - 1 < length (l .counts) = omega (arith, s .pre .0 .low, s .pre .0 .high, v .4 .counts) in
     let still : Stretch (a .gens .now) (a .signals .now) (a .seats .now) (a .tables .now) (a .p) (a .budget)
     (runAt (a .places .now) (a .heads .now) (a .counts .now) (a .rests .now) (a .times .now) (a .log .now) (a .from)) x =
     record {
       within = omega (arith, v .1, v .3);
       fit = v .5;
-      above = above-is (a .gens .now) (a .signals .now) (a .seats .now) (a .tables .now) (a .places .now) (l .heads) (l .counts) (l .rests) (l .times) (l .log) (a .p) (a .from) (l .rest) (l .n) in-range (s .pre .1 .0 .1) (v .2);
+      above = above-is (a .gens .now) (a .signals .now) (a .seats .now) (a .tables .now) (a .places .now) (l .heads) (l .counts) (l .rests) (l .times) (l .log) (a .p) (a .from) (l .rest) (l .n) in-range (s .pre .0 .low) (v .2);
       same = v .6;
       ended = λ ne. run-end (a .gens .now) (a .signals .now) (a .seats .now) (a .tables .now) x (l .n) (a .budget) (omega (arith, ne, left-is (a .gens .now) (a .signals .now) (a .seats .now) (a .tables .now) (a .places .now) (l .heads) (l .counts) (l .rests) (l .times) (l .log) (a .p) (a .from) (l .rest) (l .n) in-range, v .0, v .3, c .before .before .before .before .loop-test .left));
     } in

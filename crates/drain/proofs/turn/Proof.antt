@@ -12,20 +12,19 @@ returns c =
     let s = c .before .before .before .before in
     let a = s .args in (
       record {
-        within = s .pre .1 .0 .0;
-        fit = s .pre .1 .1;
-        above = s .pre .1 .0 .3;
+        within = s .pre .within;
+        fit = s .pre .fit;
+        above = s .pre .above;
         same = refl;
         ended = λ ne. absurd (ne (queued-in (a .places .now) (a .heads .now) (a .counts .now) (a .p - 1) ∙ c .if1 .taken));
       },
-      s .pre .0 .0,
+      s .pre .sized,
     )
 
 run-object-requires : tie.Need-run-object-requires
 run-object-requires c κs =
     let s = c .before .before .before .before .before .before .before .before .before in
-    let r = s .pre .1 .0 in
-    (s .pre .0, ((r .0, r .1, r .2, r .3, omega (arith, c .before .before .before .before .before .if1 .left)), s .pre .1 .1))
+    (s .pre, omega (arith, c .before .before .before .before .before .if1 .left))
 
 pub turn-spec : {M : Type 1} → statement M
 turn-spec = tie.close (tie.spec (λ c. search needs) (λ c. search needs) returns run-object-requires (λ c. search needs) (λ c. search needs))
