@@ -17,26 +17,26 @@ struct pool {
 };
 
 struct kernel {
-    struct pool pool;
+    uint16_t places[OBJECTS * PLACES]; /* 1 + b is block b, 64 + 32 t + g timer t with signal g */
+    uint16_t side_places[SIDES * PLACES]; /* blocks alone */
+    uint8_t wants[OBJECTS * SIGNAL_PLACES];
     uint8_t signals[BLOCKS];
     uint8_t sizes[BLOCKS];
     uint8_t holds[BLOCKS];
-    uint16_t places[OBJECTS * PLACES]; /* 1 + b is block b, 64 + 32 t + g timer t with signal g */
-    uint8_t heads[OBJECTS];
-    uint8_t counts[OBJECTS];
-    uint16_t side_places[SIDES * PLACES]; /* blocks alone */
+    uint8_t seats[OBJECTS];
+    uint8_t depths[OBJECTS];
     uint8_t side_heads[SIDES];
     uint8_t side_counts[SIDES];
-    uint8_t depths[OBJECTS];
-    uint8_t rests[OBJECTS];
-    uint8_t seats[OBJECTS];
-    uint8_t wants[OBJECTS * SIGNAL_PLACES];
     uint8_t loaded[SLOTS];
     uint8_t owners[TIMERS];
     uint8_t alarms[TIMERS];
     uint16_t counters[TIMERS];
     uint16_t intervals[TIMERS];
     uint16_t hand;
+    struct pool pool;
+    uint8_t heads[OBJECTS];
+    uint8_t counts[OBJECTS];
+    uint8_t rests[OBJECTS];
 };
 
 _Static_assert(sizeof(struct kernel) == sizeof(struct trunhoac_kernel), "the header gives the kernel its size");
@@ -65,12 +65,15 @@ static const struct trunhoac_handle last_block = {BLOCKS - 1, 0};
 static uint8_t record[TRUNHOAC_RECORD_BYTES];
 static struct kernel k; /* as the library left it */
 
-/* Up to the end of the last field, of the pool and of the kernel; what lies behind each is a gap, and nobody's. */
+/* The fields before the pool, the pool's and those behind it; what lies between them is a gap, and nobody's. */
 enum {
-    POOL_BYTES = offsetof(struct pool, marks) + sizeof k.pool.marks,
-    BEHIND_POOL = offsetof(struct kernel, signals),
-    KERNEL_BYTES = offsetof(struct kernel, hand) + sizeof k.hand
+    BEFORE_POOL = offsetof(struct kernel, hand) + sizeof k.hand,
+    POOL = offsetof(struct kernel, pool),
+    POOL_END = POOL + offsetof(struct pool, marks) + sizeof k.pool.marks,
+    BEHIND_POOL = offsetof(struct kernel, heads)
 };
+
+_Static_assert(offsetof(struct kernel, rests) + sizeof k.rests == sizeof k, "no gap behind the last field");
 
 static void take_kernel(void)
 {
@@ -99,7 +102,8 @@ static void test_fresh(void)
     lend_fresh(FILL);
     take_kernel();
     lend_fresh(FILL / 2);
-    expect(same_bytes(0, POOL_BYTES) && same_bytes(BEHIND_POOL, KERNEL_BYTES), "a fresh start writes every byte");
+    expect(same_bytes(0, BEFORE_POOL) && same_bytes(POOL, POOL_END) && same_bytes(BEHIND_POOL, sizeof k),
+           "a fresh start writes every byte");
     expect(k.pool.free == ((uint64_t)1 << BLOCKS) - 1, "every block is free");
 }
 
