@@ -39,7 +39,7 @@ pub fn byte_at(s: &[u8], i: usize) -> u8
 }
 
 // Eight bytes as a word, the first the least.
-pub fn join(a: u8, b: u8, c: u8, d: u8, e: u8, f: u8, g: u8, h: u8) -> u64
+fn join(a: u8, b: u8, c: u8, d: u8, e: u8, f: u8, g: u8, h: u8) -> u64
     ensures { λ r. ⌜ Joined a b c d e f g h r ⌝ }
 {
     let low = a as u64 | (b as u64) << 8 | (c as u64) << 16 | (d as u64) << 24;
