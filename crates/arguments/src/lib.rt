@@ -10,6 +10,11 @@ use numbers::RECORD_BYTES;
 // What the high byte of a 16-bit number counts.
 const HIGH: u16 = 256;
 
+// What the second and the third byte of a generation count.
+const MIDDLE: u32 = 256;
+
+const LAST: u32 = 65536;
+
 const AFTER_SIZE: usize = 3;
 
 pub const FIRST_PAYLOAD: usize = 8;
@@ -47,4 +52,13 @@ pub fn arg16(record: &[u8], n: usize) -> u16
     ensures { λ r. ⌜ r ≡ machine.arg16 (now («record» .entry)) n ⌝ }
 {
     byte_at(record, n) as u16 + HIGH * (byte_at(record, n + 1) as u16)
+}
+
+// The generation of the handle that a record names.
+pub fn generation(record: &[u8]) -> u32
+    ensures { λ r. ⌜ r ≡ machine.generation (now («record» .entry)) ⌝ }
+{
+    byte_at(record, 2) as u32
+        + MIDDLE * (byte_at(record, 3) as u32)
+        + LAST * (byte_at(record, 4) as u32)
 }

@@ -101,9 +101,9 @@ module _ (gens signals seats tables pl hs cs rs ts lg : List ℕ) (p from rest n
   -- one step more
   pub onward-is : from ≤ n → p ≡ highest (x .boxes) → (l : Coming) → Looks s (coming s) l → (row : List ℕ) → row ≡ nextRow s tables →
       length ts ≡ firstBytes → l .first < firstBytes →
-      midway pl hs cs rs (set ts (l .first) (getD ts (l .first) 0 + 1)) (over lg (replyBytes * n) (replyOf (ran p (l .signal) (l .first) (l .second) row)))
+      midway pl hs cs rs (set ts (l .first) (getD ts (l .first) 0 + 1)) (over lg (replyBytes * n) (replyOf (ran p (l .signal) (l .first) (l .generation) row)))
       (p - 1) from (getD row 0 0) (n + 1) ≡ onward gens signals seats tables x
   unfolding onward logged nextSays
   onward-is since e l w row r long small =
       let z : n + 1 - from ≡ n - from + 1 = omega arith in
-      rw (z, ← first-more (boxes pl hs cs) (p - 1) (n - from), once-more-set ts (l .first) long small, w .signal, w .first, w .second, r, ← e, set-set) refl
+      rw (z, ← first-more (boxes pl hs cs) (p - 1) (n - from), once-more-set ts (l .first) long small, w .signal, w .first, w .generation, r, ← e, set-set) refl

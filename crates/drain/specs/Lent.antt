@@ -7,7 +7,7 @@ use Rattle.chart.specs.Numbers.{rowSize}
 use Rattle.machine.specs.Numbers.{objects, signalPlaces, tableBytes, mostSteps, logBytes}
 use Rattle.machine.specs.Run.{Run, FitRun, runFrom}
 use Rattle.machine.specs.State.{State}
-use Rattle.machine.specs.Steps.{signalOf, handle₁, handle₂}
+use Rattle.machine.specs.Steps.{signalOf, firstByte, generationIn}
 use Rattle.mail.specs.Box.{boxAt, tookFirst}
 use Rattle.mail.specs.View.{Mail, boxes}
 use Rattle.mail.specs.declared.Hand.{Hand}
@@ -21,8 +21,8 @@ Generations s gens = (b : ℕ) → b < blocks → generationAt (s .cells) b ≡ 
 -- What is seen of an event: its signal and its handle.
 pub record Looks (s : State) (h : Hand) (l : Coming) : Type 0 where
   pub signal : l .signal ≡ signalOf s h
-  pub first : l .first ≡ handle₁ h
-  pub second : l .second ≡ handle₂ s h
+  pub first : l .first ≡ firstByte h
+  pub generation : l .generation ≡ generationIn s h
 
 -- What an answer needs: an object, a signal, and a row.
 pub record Runs (p : ℕ) (l : Coming) (row : List ℕ) : Type 0 where

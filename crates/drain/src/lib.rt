@@ -38,11 +38,11 @@ const STOPPED: u8 = 2;
 // For an event that is no block.
 const NO_BLOCK: u8 = 255;
 
-// An event that comes: its signal, and the two bytes of its handle.
+// An event that comes: its signal, and its handle, the first byte and the generation.
 pub struct Coming {
     pub signal: u8,
     pub first: u8,
-    pub second: u8,
+    pub generation: u32,
 }
 
 // The block that an event is; 255, which is no block, for a timer.
@@ -57,7 +57,7 @@ pub fn block_of(h: Hand) -> u8
 }
 
 // The event of an entry.
-pub fn look(signals: &[u8; BLOCKS], gens: &[u8; BLOCKS], e: u16) -> Coming
+pub fn look(signals: &[u8; BLOCKS], gens: &[u32; BLOCKS], e: u16) -> Coming
     requires { ⌜ IsEvent (handOf e) ⌝ }
     ensures { λ r. ⌜ ((s : State) → s .events .signals ≡ now (signals .entry) → Generations s (now (gens .entry)) → Looks s (handOf e) r) ⌝ }
 {
@@ -65,20 +65,20 @@ pub fn look(signals: &[u8; BLOCKS], gens: &[u8; BLOCKS], e: u16) -> Coming
         Hand::Nothing => Coming {
             signal: 0,
             first: 0,
-            second: 0,
+            generation: 0,
         },
         Hand::Block(b) => {
             let i = wide(b);
             Coming {
                 signal: signals[i],
                 first: b,
-                second: gens[i],
+                generation: gens[i],
             }
         }
         Hand::Timer(t, g) => Coming {
             signal: g,
             first: TIMER + t,
-            second: 0,
+            generation: 0,
         },
     }
 }
@@ -86,9 +86,9 @@ pub fn look(signals: &[u8; BLOCKS], gens: &[u8; BLOCKS], e: u16) -> Coming
 // NEXT's answer: object p takes a row.
 pub fn answer(p: usize, l: Coming, row: &[u8]) -> [u8; REPLY_BYTES]
     requires { ⌜ Runs p l (now row) ⌝ }
-    ensures { λ r. ⌜ r ≡ replyOf (ran p (l .signal) (l .first) (l .second) (now (row .entry))) ⌝ }
+    ensures { λ r. ⌜ r ≡ replyOf (ran p (l .signal) (l .first) (l .generation) (now (row .entry))) ⌝ }
 {
-    reply::ran(p as u8, l.signal, l.first, l.second, row)
+    reply::ran(p as u8, l.signal, l.first, l.generation, row)
 }
 
 // Object q has taken so many of its entries, and rests in a state.
@@ -118,7 +118,7 @@ fn run_object(
     rests: &mut [u8; OBJECTS],
     seats: &[u8; OBJECTS],
     signals: &[u8; BLOCKS],
-    gens: &[u8; BLOCKS],
+    gens: &[u32; BLOCKS],
     times: &mut [u8; FIRST_BYTES],
     tables: &[u8],
     log: &mut [u8],
@@ -169,7 +169,7 @@ fn turn(
     rests: &mut [u8; OBJECTS],
     seats: &[u8; OBJECTS],
     signals: &[u8; BLOCKS],
-    gens: &[u8; BLOCKS],
+    gens: &[u32; BLOCKS],
     times: &mut [u8; FIRST_BYTES],
     tables: &[u8],
     log: &mut [u8],
@@ -211,7 +211,7 @@ pub fn run(
     rests: &mut [u8; OBJECTS],
     seats: &[u8; OBJECTS],
     signals: &[u8; BLOCKS],
-    gens: &[u8; BLOCKS],
+    gens: &[u32; BLOCKS],
     times: &mut [u8; FIRST_BYTES],
     tables: &[u8],
     log: &mut [u8],

@@ -47,7 +47,7 @@ fn post_back(mut k: Kernel, b: usize, p: usize) -> Kernel
 }
 
 // The tests of POST; those of POSTFRONT are the same with margin 0.
-fn post_no(k: Kernel, spoilt: bool, b: usize, generation: u8, p: usize, margin: usize) -> u8
+fn post_no(k: Kernel, spoilt: bool, b: usize, generation: u32, p: usize, margin: usize) -> u8
     ensures { λ r. ⌜ r ≡ lowest (postTests spoilt b generation p margin (stateOf k)) ⌝ }
 {
     let depths = k.depths;
@@ -59,7 +59,7 @@ fn post_no(k: Kernel, spoilt: bool, b: usize, generation: u8, p: usize, margin: 
 }
 
 // POST handle, p, margin.
-pub fn post(k: Kernel, spoilt: bool, b: usize, generation: u8, p: usize, margin: usize) -> Answered
+pub fn post(k: Kernel, spoilt: bool, b: usize, generation: u32, p: usize, margin: usize) -> Answered
     requires { ⌜ Good k ⌝ }
     ensures { λ r. ⌜ ((z : Areas) → answered r z ≡ machine.post spoilt b generation p margin (stateOf k) z) ⌝ }
 {
@@ -92,7 +92,7 @@ fn post_ahead(mut k: Kernel, b: usize, p: usize) -> Kernel
 }
 
 // POSTFRONT handle, p.
-pub fn post_front(k: Kernel, spoilt: bool, b: usize, generation: u8, p: usize) -> Answered
+pub fn post_front(k: Kernel, spoilt: bool, b: usize, generation: u32, p: usize) -> Answered
     requires { ⌜ Good k ⌝ }
     ensures { λ r. ⌜ ((z : Areas) → answered r z ≡ machine.postFront spoilt b generation p (stateOf k) z) ⌝ }
 {
@@ -148,7 +148,7 @@ fn publish_done(mut k: Kernel, b: usize, g: usize) -> Answered
 }
 
 // PUBLISH handle. Whether a subscriber has no place is known before the first gets the event: all or none.
-pub fn publish(k: Kernel, spoilt: bool, b: usize, generation: u8) -> Answered
+pub fn publish(k: Kernel, spoilt: bool, b: usize, generation: u32) -> Answered
     requires { ⌜ Good k ⌝ }
     ensures { λ r. ⌜ ((z : Areas) → answered r z ≡ machine.publish spoilt b generation (stateOf k) z) ⌝ }
 {
@@ -177,7 +177,7 @@ fn with_holds(mut k: Kernel, pool: Pool, b: usize, n: u8) -> Kernel
 }
 
 // HOLD handle: a hold is a reference.
-pub fn hold(k: Kernel, spoilt: bool, b: usize, generation: u8) -> Answered
+pub fn hold(k: Kernel, spoilt: bool, b: usize, generation: u32) -> Answered
     requires { ⌜ Good k ⌝ }
     ensures { λ r. ⌜ ((z : Areas) → answered r z ≡ machine.hold spoilt b generation (stateOf k) z) ⌝ }
 {
@@ -195,7 +195,7 @@ pub fn hold(k: Kernel, spoilt: bool, b: usize, generation: u8) -> Answered
 }
 
 // RELEASE handle: the last reference frees the event.
-pub fn release(k: Kernel, spoilt: bool, b: usize, generation: u8) -> Answered
+pub fn release(k: Kernel, spoilt: bool, b: usize, generation: u32) -> Answered
     requires { ⌜ Good k ⌝ }
     ensures { λ r. ⌜ ((z : Areas) → answered r z ≡ machine.release spoilt b generation (stateOf k) z) ⌝ }
 {
@@ -222,7 +222,7 @@ fn with_pool(mut k: Kernel, pool: Pool) -> Kernel
 }
 
 // DROP handle: frees a new event.
-pub fn drop_event(k: Kernel, spoilt: bool, b: usize, generation: u8) -> Answered
+pub fn drop_event(k: Kernel, spoilt: bool, b: usize, generation: u32) -> Answered
     requires { ⌜ Good k ⌝ }
     ensures { λ r. ⌜ ((z : Areas) → answered r z ≡ machine.dropEvent spoilt b generation (stateOf k) z) ⌝ }
 {

@@ -6,8 +6,8 @@ ghost use Rattle.machine.specs.Machine.{command};
 ghost use Rattle.machine.specs.Reply.{Areas};
 ghost use Rattle.state.specs.View.{answered, Good, stateOf};
 use arguments::arg;
+use arguments::generation;
 use arguments::spoilt;
-use ground::byte_at;
 use state::Answered;
 use state::Kernel;
 
@@ -18,11 +18,11 @@ pub fn post_command(k: Kernel, record: &[u8]) -> Answered
 {
     super::post(
         k,
-        spoilt(record, 4),
+        spoilt(record, 6),
         arg(record, 1),
-        byte_at(record, 2),
-        arg(record, 3),
-        arg(record, 4),
+        generation(record),
+        arg(record, 5),
+        arg(record, 6),
     )
 }
 
@@ -33,10 +33,10 @@ pub fn post_front_command(k: Kernel, record: &[u8]) -> Answered
 {
     super::post_front(
         k,
-        spoilt(record, 3),
+        spoilt(record, 5),
         arg(record, 1),
-        byte_at(record, 2),
-        arg(record, 3),
+        generation(record),
+        arg(record, 5),
     )
 }
 
@@ -45,7 +45,7 @@ pub fn publish_command(k: Kernel, record: &[u8]) -> Answered
     requires { ⌜ Good k ⌝ }
     ensures { λ r. ⌜ ((d : List ℕ) (z : Areas) → answered r z ≡ command 6 (now («record» .entry)) d (stateOf k) z) ⌝ }
 {
-    super::publish(k, spoilt(record, 2), arg(record, 1), byte_at(record, 2))
+    super::publish(k, spoilt(record, 4), arg(record, 1), generation(record))
 }
 
 // HOLD handle.
@@ -53,7 +53,7 @@ pub fn hold_command(k: Kernel, record: &[u8]) -> Answered
     requires { ⌜ Good k ⌝ }
     ensures { λ r. ⌜ ((d : List ℕ) (z : Areas) → answered r z ≡ command 9 (now («record» .entry)) d (stateOf k) z) ⌝ }
 {
-    super::hold(k, spoilt(record, 2), arg(record, 1), byte_at(record, 2))
+    super::hold(k, spoilt(record, 4), arg(record, 1), generation(record))
 }
 
 // RELEASE handle.
@@ -61,7 +61,7 @@ pub fn release_command(k: Kernel, record: &[u8]) -> Answered
     requires { ⌜ Good k ⌝ }
     ensures { λ r. ⌜ ((d : List ℕ) (z : Areas) → answered r z ≡ command 10 (now («record» .entry)) d (stateOf k) z) ⌝ }
 {
-    super::release(k, spoilt(record, 2), arg(record, 1), byte_at(record, 2))
+    super::release(k, spoilt(record, 4), arg(record, 1), generation(record))
 }
 
 // DROP handle.
@@ -69,5 +69,5 @@ pub fn drop_event_command(k: Kernel, record: &[u8]) -> Answered
     requires { ⌜ Good k ⌝ }
     ensures { λ r. ⌜ ((d : List ℕ) (z : Areas) → answered r z ≡ command 11 (now («record» .entry)) d (stateOf k) z) ⌝ }
 {
-    super::drop_event(k, spoilt(record, 2), arg(record, 1), byte_at(record, 2))
+    super::drop_event(k, spoilt(record, 4), arg(record, 1), generation(record))
 }

@@ -6,7 +6,7 @@ use Prim.Native.Nat.{ℕ}
 use lib.Dec.{eqb}
 use lib.ListN.{length, drop, take}
 use Rattle.machine.specs.Events.{payloadOf, readAt, readPart, readTests}
-use Rattle.machine.specs.Machine.{arg, partAt, partOf, spoilt}
+use Rattle.machine.specs.Machine.{arg, generation, partAt, partOf, spoilt}
 use Rattle.machine.specs.Numbers.{placeOf, recordBytes}
 use Rattle.machine.specs.Reply.{lowest}
 use Rattle.machine.specs.State.{State, sizeIn}
@@ -28,4 +28,4 @@ pub part-lies : (s : State) (r l : List ℕ) → lies l (partAt s r l) ≡ partO
 unfolding partAt partOf
 part-lies s r l =
     let test = eqb (length r) recordBytes && eqb (arg r 0) 17 in
-    lies-if l test (readAt (spoilt 2 r) (arg r 1) (arg r 2) s l) (readPart (spoilt 2 r) (arg r 1) (arg r 2) s l) (read-lies (spoilt 2 r) (arg r 1) (arg r 2) s l)
+    lies-if l test (readAt (spoilt 4 r) (arg r 1) (generation r) s l) (readPart (spoilt 4 r) (arg r 1) (generation r) s l) (read-lies (spoilt 4 r) (arg r 1) (generation r) s l)

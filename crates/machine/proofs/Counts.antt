@@ -15,8 +15,8 @@ use Rattle.mail.specs.Entry.{firstTimer, signals, entryOf, handOf, timerOf}
 use Rattle.mail.specs.Laws.{occurrences-most}
 use Rattle.mail.specs.declared.Hand.{Hand}
 use Rattle.mail.specs.declared.Hand.the-variants.{Nothing, Block, Timer}
-use Rattle.pool.specs.Cell.{Cell, free, live, absent, isFree, staleFor, handedOut, more, fewer, dropped, mostReferences}
-use Rattle.pool.specs.Laws.{changed-here, changed-other}
+use Rattle.pool.specs.Cell.{Cell, free, live, retired, absent, back, isFree, staleFor, handedOut, more, fewer, dropped, mostReferences}
+use Rattle.pool.specs.Laws.{back-all, changed-here, changed-other}
 use Rattle.pool.specs.Row.{at, blocks, changed, staleAt}
 use Rattle.machine.specs.Inv.{Inv, inHand, references, countOf, isLive}
 use Rattle.machine.specs.Numbers.{objects, mostHolds, sideQueues, mostAside}
@@ -30,6 +30,7 @@ pub more-live : (c : Cell) → isLive (more c) ≡ isLive c
 unfolding isLive more
 more-live (free g) = refl
 more-live (live g n) = refl
+more-live (retired g) = refl
 more-live absent = refl
 
 pub more-none : MakesNoneLive more
@@ -39,33 +40,47 @@ pub fewer-none : MakesNoneLive fewer
 unfolding isLive fewer
 fewer-none (free g) h = h
 fewer-none (live g n) h = refl
+fewer-none (retired g) h = h
 fewer-none absent h = h
 
 pub dropped-none : MakesNoneLive dropped
 unfolding isLive dropped
 dropped-none (free g) h = h
 dropped-none (live g n) h = refl
+dropped-none (retired g) h = h
 dropped-none absent h = h
 
 pub count-more : (c : Cell) → isLive c ≡ true → countOf c < mostReferences → countOf (more c) ≡ countOf c + 1
 unfolding isLive countOf more
 count-more (free g) e h = no-yes e
 count-more (live g n) e h = rw (lt-leb mostReferences n h) refl
+count-more (retired g) e h = no-yes e
 count-more absent e h = no-yes e
+
+-- a block that went back counts nothing, and is not live
+pub count-back : (g : ℕ) → countOf (back g) ≡ 0
+unfolding countOf
+count-back g = back-all (λ c. countOf c ≡ 0) g (λ h. refl) (λ h. refl)
+
+pub back-not-live : (g : ℕ) → isLive (back g) ≡ false
+unfolding isLive
+back-not-live g = back-all (λ c. isLive c ≡ false) g (λ h. refl) (λ h. refl)
 
 pub count-fewer : (c : Cell) → countOf (fewer c) ≡ countOf c - 1
 unfolding countOf fewer
 count-fewer (free g) = refl
 count-fewer (live g zero) = refl
-count-fewer (live g (suc zero)) = refl
+count-fewer (live g (suc zero)) = count-back g
 count-fewer (live g (suc (suc n))) = omega arith
+count-fewer (retired g) = refl
 count-fewer absent = refl
 
 pub count-dropped : (c : Cell) → countOf (dropped c) ≡ countOf c
 unfolding countOf dropped
 count-dropped (free g) = refl
-count-dropped (live g zero) = refl
+count-dropped (live g zero) = count-back g
 count-dropped (live g (suc n)) = refl
+count-dropped (retired g) = refl
 count-dropped absent = refl
 
 pub count-handed : (c : Cell) → countOf (handedOut c) ≡ 0
@@ -76,6 +91,7 @@ pub count-free : (c : Cell) → isFree c ≡ true → countOf c ≡ 0
 unfolding countOf isFree
 count-free (free g) e = refl
 count-free (live g n) e = no-yes e
+count-free (retired g) e = refl
 count-free absent e = refl
 
 -- a block that counts a reference is live
@@ -83,6 +99,7 @@ pub live-counted : (c : Cell) → 0 < countOf c → isLive c ≡ true
 unfolding countOf isLive
 live-counted (free g) h = absurd (omega arith)
 live-counted (live g n) h = refl
+live-counted (retired g) h = absurd (omega arith)
 live-counted absent h = absurd (omega arith)
 
 -- a handle that is not stale is one of a live block
@@ -93,6 +110,7 @@ live-handle cells b gen e = go (at cells b) e
     go : (c : Cell) → staleFor c gen ≡ false → isLive c ≡ true
     go (free g) h = no-yes (sym h)
     go (live g n) h = refl
+    go (retired g) h = no-yes (sym h)
     go absent h = no-yes (sym h)
 
 -- The row: r says of each block what refers to it, t what does so after a change of block b.

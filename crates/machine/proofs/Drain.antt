@@ -16,16 +16,16 @@ use Rattle.mail.specs.Box.{tookFront, queued}
 use Rattle.mail.specs.Laws.{queued-took}
 use Rattle.mail.specs.declared.Hand.{Hand}
 use Rattle.mail.specs.declared.Hand.the-variants.{Nothing, Block, Timer}
-use Rattle.pool.specs.Cell.{Cell, free, live, absent, atLast, generationOf, fewer, fewerBy}
+use Rattle.pool.specs.Cell.{Cell, free, live, retired, absent, atLast, generationOf, fewer, fewerBy}
 use Rattle.pool.specs.Laws.{gone-at, gone-length, gone-never, gone-once-more}
 use Rattle.pool.specs.Row.{at, blocks, changed, generationAt, goneAll, goneTimes, onceMore}
-use Rattle.machine.proofs.Counts.{fewer-none}
+use Rattle.machine.proofs.Counts.{fewer-none, back-not-live}
 use Rattle.machine.proofs.KeepsSteps.{Ready, ready, step-ready, coming-event, coming-live, row-within, step-keeps}
 use Rattle.machine.specs.Inv.{Inv, isLive, IsEvent}
 use Rattle.machine.specs.Reply.{lowest}
 use Rattle.machine.specs.Run.{Run, blockOf, begun, afterRun, seen, FitFor, onward, runFrom}
 use Rattle.machine.specs.State.{State, withCells}
-use Rattle.machine.specs.Steps.{toRun, coming, signalOf, handle₁, handle₂, nextRow, stepTests, stepped, nextSays, letGoHand, frees, ended, Drained, logged, drainFrom}
+use Rattle.machine.specs.Steps.{toRun, coming, signalOf, firstByte, generationIn, nextRow, stepTests, stepped, nextSays, letGoHand, frees, ended, Drained, logged, drainFrom}
 
 -- Each step takes one entry.
 let-go-boxes : (h : Hand) (s : State) → letGoHand h s .boxes ≡ s .boxes
@@ -54,8 +54,9 @@ fewer-generation : (c : Cell) → isLive (fewer c) ≡ true → generationOf (fe
 unfolding fewer isLive generationOf
 fewer-generation (free g) e = refl
 fewer-generation (live g zero) e = refl
-fewer-generation (live g (suc zero)) e = no-yes e
+fewer-generation (live g (suc zero)) e = no-yes (sym (back-not-live g) ∙ e)
 fewer-generation (live g (suc (suc n))) e = refl
+fewer-generation (retired g) e = refl
 fewer-generation absent e = refl
 
 fewer-by-generation : (n : ℕ) (c : Cell) → isLive (fewerBy n c) ≡ true → generationOf (fewerBy n c) ≡ generationOf c
@@ -89,8 +90,8 @@ frees-is (Timer t g) s l = rw (List·getD-eq-default (s .cells) absent l) refl
 
 -- An event that is let go once more, by the first byte of its handle: a timer's is no block, and nor is 255.
 once-let-go : (h : Hand) (s : List Cell) (times : List ℕ) → IsEvent h → length s ≡ blocks →
-    changed fewer (goneTimes s times) (blockOf h) ≡ goneTimes s (onceMore times (handle₁ h))
-unfolding IsEvent blockOf handle₁
+    changed fewer (goneTimes s times) (blockOf h) ≡ goneTimes s (onceMore times (firstByte h))
+unfolding IsEvent blockOf firstByte
 once-let-go Nothing s times e l = absurd e
 once-let-go (Block b) s times e l = sym (gone-once-more s times b (omega arith))
 once-let-go (Timer t g) s times e l =
@@ -129,8 +130,8 @@ module _ (s : State) (tables : List ℕ) (x : Run) where
   same-tests = rw same-row refl
 
   module _ (i : Inv (afterRun s x)) (r : Ready (afterRun s x)) where
-    pub same-handle : (h : Hand) → coming (afterRun s x) ≡ h → handle₂ (afterRun s x) h ≡ handle₂ (seenOf s x) h
-    unfolding handle₂ generationAt generationOf IsEvent
+    pub same-handle : (h : Hand) → coming (afterRun s x) ≡ h → generationIn (afterRun s x) h ≡ generationIn (seenOf s x) h
+    unfolding generationIn generationAt generationOf IsEvent
     same-handle Nothing e = refl
     same-handle (Block b) e =
         let l : b < blocks = rw e at (coming-event (afterRun s x) i r) in

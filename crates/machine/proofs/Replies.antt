@@ -1,4 +1,4 @@
--- Every reply has 24 bytes and a number up to 15; a refusal leaves everything else as it was.
+-- Every reply has 28 bytes and a number up to 15; a refusal leaves everything else as it was.
 use mathlib.Core.Bool.{Bool, true, false, cond, not, _&&_}
 use mathlib.Core.List.{List, [], _∷_}
 use mathlib.Core.Path.{_≡_, refl}
@@ -6,11 +6,12 @@ use Prim.Native.Nat.{ℕ, zero, suc, _≤_, _<_}
 use native.Mathlib.Omega.{arith}
 use borrow.Author.Tests.{leb-true, not-true}
 use lib.Dec.{eqb, leb}
-use lib.ListN.{length, getD, drop, replicate}
+use lib.ListN.{length, getD, replicate, length-append}
 use Rattle.ground.specs.Bytes.{padded}
 use Rattle.ground.specs.Padding.{length-padded}
 use Rattle.ground.specs.Bools.{and-left, and-right, cond-pick}
 use Rattle.chart.specs.Chart.{classOf}
+use Rattle.chart.specs.Numbers.{mostActions}
 use Rattle.pool.specs.declared.Found.{Found}
 use Rattle.pool.specs.declared.Found.the-variants.{At, Nothing}
 use Rattle.machine.proofs.Dispatch.{OfEach, answer-all}
@@ -43,18 +44,22 @@ use Rattle.machine.specs.Events.{
 }
 use Rattle.machine.specs.Machine.{answerTo}
 use Rattle.machine.specs.Numbers.{replyBytes}
-use Rattle.machine.specs.Reply.{FORM, CHART, Said, no, badChart, done, made, ran, shown, bytes, replyOf, Areas, Answer, answer, lowest, unless, unlessFault}
+use Rattle.machine.specs.Reply.{FORM, CHART, Said, no, badChart, done, made, ran, shown, handle, bytes, replyOf, Areas, Answer, answer, lowest, unless, unlessFault}
 use Rattle.machine.specs.State.{State}
 use Rattle.machine.specs.Steps.{stepTests, nextTests, nextSays, next, endTests, end, drainTests, drainDone, drain}
 
+bytes-length : (n p outcome g count v w : ℕ) (acts event : List ℕ) → length event ≡ 4 → length (bytes n p outcome g count v w acts event) ≡ replyBytes
+unfolding bytes
+bytes-length n p outcome g count v w acts event e = omega (arith, length-append (padded mostActions acts) event, length-padded mostActions acts, e)
+
 pub reply-length : (w : Said) → length (replyOf w) ≡ replyBytes
-unfolding replyOf bytes
-reply-length (no n) = omega (arith, length-padded 18 [])
-reply-length (badChart c) = omega (arith, length-padded 18 [])
-reply-length (done v w) = omega (arith, length-padded 18 [])
-reply-length (made b g mark) = omega (arith, length-padded 18 [])
-reply-length (ran p g v w row) = omega (arith, length-padded 18 (drop 3 row))
-reply-length (shown l) = omega (arith, length-padded 18 l)
+unfolding replyOf handle
+reply-length (no n) = bytes-length _ _ _ _ _ _ _ _ _ refl
+reply-length (badChart c) = bytes-length _ _ _ _ _ _ _ _ _ refl
+reply-length (done v w) = bytes-length _ _ _ _ _ _ _ _ _ refl
+reply-length (made b gen mark) = bytes-length _ _ _ _ _ _ _ _ _ refl
+reply-length (ran p g first gen row) = bytes-length _ _ _ _ _ _ _ _ _ refl
+reply-length (shown l) = bytes-length _ _ _ _ _ _ _ _ _ refl
 
 -- The number of an answer.
 abbrev pub numberOf : Answer → ℕ
@@ -64,7 +69,7 @@ numberOf a = getD (a .reply) 0 0
 pub record Refuses (d : List ℕ) (s : State) (z : Areas) (a : Answer) : Type 0 where
   pub state : a .state ≡ s
   pub areas : a .areas ≡ z
-  pub reply : a .reply ≡ numberOf a ∷ 0 ∷ 0 ∷ 0 ∷ cond (eqb (numberOf a) CHART) (classOf d) 0 ∷ replicate 19 0
+  pub reply : a .reply ≡ numberOf a ∷ 0 ∷ 0 ∷ 0 ∷ cond (eqb (numberOf a) CHART) (classOf d) 0 ∷ replicate 23 0
 
 pub record Replies (d : List ℕ) (s : State) (z : Areas) (a : Answer) : Type 0 where
   pub long : length (a .reply) ≡ replyBytes
@@ -102,13 +107,13 @@ module _ (d : List ℕ) (s : State) (z : Areas) where
     unfolding replyOf bytes
     says v w = does (done v w) refl
 
-    makes : (b g mark : ℕ) → Replies d s z (answer t (made b g mark) y)
+    makes : (b gen mark : ℕ) → Replies d s z (answer t (made b gen mark) y)
     unfolding replyOf bytes
-    makes b g mark = does (made b g mark) refl
+    makes b gen mark = does (made b gen mark) refl
 
-    runs : (p g v w : ℕ) (row : List ℕ) → Replies d s z (answer t (ran p g v w row) y)
+    runs : (p g first gen : ℕ) (row : List ℕ) → Replies d s z (answer t (ran p g first gen row) y)
     unfolding replyOf bytes
-    runs p g v w row = does (ran p g v w row) refl
+    runs p g first gen row = does (ran p g first gen row) refl
 
     shows : (l : List ℕ) → Replies d s z (answer t (shown l) y)
     unfolding replyOf bytes

@@ -11,7 +11,7 @@ use Rattle.mail.specs.Box.{boxAt, occurrences, one}
 use Rattle.mail.specs.Entry.{entryOf, handOf}
 use Rattle.mail.specs.declared.Hand.{Hand}
 use Rattle.mail.specs.declared.Hand.the-variants.{Nothing, Block, Timer}
-use Rattle.pool.specs.Cell.{Cell, free, live, absent}
+use Rattle.pool.specs.Cell.{Cell, free, live, retired, absent}
 use Rattle.pool.specs.Row.{at}
 use Rattle.machine.specs.Numbers.{objects, blocks, timers, slots, mostHolds, sideQueues, mostAside, signalPlaces, capacity}
 use Rattle.machine.specs.State.{State, Events, Objects, Timers}
@@ -30,11 +30,13 @@ references s b =
 unfoldable pub countOf : Cell → ℕ
 countOf (free g) = 0
 countOf (live g n) = n
+countOf (retired g) = 0
 countOf absent = 0
 
 unfoldable pub isLive : Cell → Bool
 isLive (free g) = false
 isLive (live g n) = true
+isLive (retired g) = false
 isLive absent = false
 
 -- A signal, and an event: a block, or a timer with its signal.
@@ -109,7 +111,7 @@ pub record TimersOk (x : Timers) (depths : List ℕ) : Type 0 where
   pub armed : (t : ℕ) → 0 < getD (x .counters) t 0 → ArmedOk depths (getD (x .owners) t 0) (getD (x .alarms) t 0)
 
 -- Each part speaks of the fields that it reads, and so stays as it is where a command changes others. Every block counts what refers to
--- it: a free block counts nothing, so that nothing refers to it.
+-- it: a free block, or a retired one, counts nothing, so that nothing refers to it.
 pub record Inv (s : State) : Type 0 where
   pub store : StoreOk (s .cells) (s .events)
   pub mail : MailOk (s .boxes) (s .objects .depths)

@@ -21,6 +21,10 @@ arg r k = getD r k 0
 abbrev pub arg16 : List ℕ → ℕ → ℕ
 arg16 r k = arg r k + 256 * arg r (k + 1)
 
+-- The handle of an event: its block is argument 1, its generation the next three, low byte first.
+abbrev pub generation : List ℕ → ℕ
+generation r = arg r 2 + 256 * arg r 3 + 65536 * arg r 4
+
 abbrev pub payload : List ℕ → List ℕ
 payload r = drop 8 r
 
@@ -42,20 +46,20 @@ command n r d s z =
     choose (eqb n 1) (load (spoilt 1 r) (arg r 1) d s z)
     (choose (eqb n 2) (start (spoilt 3 r) (arg r 1) (arg r 2) (arg r 3) s z)
     (choose (eqb n 3) (new (spoiltNew (arg r 2) r) (arg r 1) (arg r 2) (payload r) s z)
-    (choose (eqb n 4) (post (spoilt 4 r) (arg r 1) (arg r 2) (arg r 3) (arg r 4) s z)
-    (choose (eqb n 5) (postFront (spoilt 3 r) (arg r 1) (arg r 2) (arg r 3) s z)
-    (choose (eqb n 6) (publish (spoilt 2 r) (arg r 1) (arg r 2) s z)
+    (choose (eqb n 4) (post (spoilt 6 r) (arg r 1) (generation r) (arg r 5) (arg r 6) s z)
+    (choose (eqb n 5) (postFront (spoilt 5 r) (arg r 1) (generation r) (arg r 5) s z)
+    (choose (eqb n 6) (publish (spoilt 4 r) (arg r 1) (generation r) s z)
     (choose (eqb n 7) (subscribe (spoilt 2 r) (arg r 1) (arg r 2) s z)
     (choose (eqb n 8) (unsubscribe (spoilt 2 r) (arg r 1) (arg r 2) s z)
-    (choose (eqb n 9) (hold (spoilt 2 r) (arg r 1) (arg r 2) s z)
-    (choose (eqb n 10) (release (spoilt 2 r) (arg r 1) (arg r 2) s z)
-    (choose (eqb n 11) (dropEvent (spoilt 2 r) (arg r 1) (arg r 2) s z)
+    (choose (eqb n 9) (hold (spoilt 4 r) (arg r 1) (generation r) s z)
+    (choose (eqb n 10) (release (spoilt 4 r) (arg r 1) (generation r) s z)
+    (choose (eqb n 11) (dropEvent (spoilt 4 r) (arg r 1) (generation r) s z)
     (choose (eqb n 12) (next (spoilt 0 r) s z)
     (choose (eqb n 13) (end (spoilt 0 r) s z)
     (choose (eqb n 14) (arm (spoilt 7 r) (arg r 1) (arg r 2) (arg r 3) (arg16 r 4) (arg16 r 6) s z)
     (choose (eqb n 15) (disarm (spoilt 1 r) (arg r 1) s z)
     (choose (eqb n 16) (tick (spoilt 0 r) s z)
-    (choose (eqb n 17) (read (spoilt 2 r) (arg r 1) (arg r 2) s z)
+    (choose (eqb n 17) (read (spoilt 4 r) (arg r 1) (generation r) s z)
     (choose (eqb n 18) (drain (spoilt 1 r) (arg r 1) s z)
     (choose (eqb n 19) (defer (spoilt 1 r) (arg r 1) s z)
     (choose (eqb n 20) (recall (spoilt 2 r) (arg r 1) (arg r 2) s z)
@@ -67,8 +71,8 @@ answerTo s r d z = choose (eqb (length r) recordBytes) (command (arg r 0) r d s 
 
 -- The part of the payload area that READ hands back; empty for any other record.
 unfoldable pub partOf : State → List ℕ → List ℕ → List ℕ
-partOf s r payloads = cond (eqb (length r) recordBytes && eqb (arg r 0) 17) (readPart (spoilt 2 r) (arg r 1) (arg r 2) s payloads) []
+partOf s r payloads = cond (eqb (length r) recordBytes && eqb (arg r 0) 17) (readPart (spoilt 4 r) (arg r 1) (generation r) s payloads) []
 
 -- Where that part begins in the payload area, and how long it is; 0 and 0 when READ is refused, and for any other record.
 unfoldable pub partAt : State → List ℕ → List ℕ → ℕ × ℕ
-partAt s r payloads = cond (eqb (length r) recordBytes && eqb (arg r 0) 17) (readAt (spoilt 2 r) (arg r 1) (arg r 2) s payloads) (0, 0)
+partAt s r payloads = cond (eqb (length r) recordBytes && eqb (arg r 0) 17) (readAt (spoilt 4 r) (arg r 1) (generation r) s payloads) (0, 0)

@@ -33,12 +33,16 @@ mostBytes = 64
 abbrev pub signalPlaces : ℕ
 signalPlaces = 32
 
--- The bytes of a record, of a reply, and of the areas: payloads, tables, log, which has a line for each of the most steps of a DRAIN.
+-- The bytes of a record, of a reply, which ends with a handle, and of the areas: payloads, tables, log, which has a line for each of the
+-- most steps of a DRAIN.
 abbrev pub recordBytes : ℕ
 recordBytes = 72
 
+abbrev pub handlePlace : ℕ
+handlePlace = 24
+
 abbrev pub replyBytes : ℕ
-replyBytes = 24
+replyBytes = 28
 
 abbrev pub payloadBytes : ℕ
 payloadBytes = 1536

@@ -1,7 +1,7 @@
--- Document 01, "The reply record": the refusals by name, the bytes of every reply, and what a command answers.
+-- Document 01, "The reply record", as document 02 amends it: the refusals by name, the bytes of every reply, and what a command answers.
 use mathlib.Core.Bool.{Bool, cond}
 use mathlib.Core.List.{List, [], _∷_, _++_}
-use Prim.Native.Nat.{ℕ, zero, suc, _+_, _*_}
+use Prim.Native.Nat.{ℕ, zero, suc, _+_, _*_, _/_, _%_}
 use lib.ListN.{length, getD, take, drop}
 use Rattle.chart.specs.Numbers.{mostActions}
 use Rattle.ground.specs.Bytes.{padded}
@@ -55,8 +55,9 @@ CHART = 14
 abbrev pub TABLE : ℕ
 TABLE = 15
 
--- What a reply says: a refusal by its number; CHART with the class; DONE with two values; DONE of NEW with the handle and the pool's
--- mark; DONE of START and NEXT with the object, the signal, two values and the row that was taken; DONE of READ with the payload.
+-- What a reply says: a refusal by its number; CHART with the class; DONE with two values; DONE of NEW with block and generation and the
+-- pool's mark; DONE of START and NEXT with the object, the signal, the event's first byte and generation (0 and 0 for START) and the row
+-- that was taken; DONE of READ with the payload.
 pub data Said : Type 0 where
   no : ℕ → Said
   badChart : ℕ → Said
@@ -65,17 +66,24 @@ pub data Said : Type 0 where
   ran : ℕ → ℕ → ℕ → ℕ → List ℕ → Said
   shown : List ℕ → Said
 
--- Reply number, object, outcome × 32 + signal, count, two value bytes, 18 actions.
-unfoldable pub bytes : ℕ → ℕ → ℕ → ℕ → ℕ → ℕ → ℕ → List ℕ → List ℕ
-bytes n p outcome g count v w acts = n ∷ p ∷ (outcome * 32 + g) ∷ count ∷ v ∷ w ∷ padded mostActions acts
+-- A handle: a block, or 128 and a timer, then the generation in three bytes, low first.
+unfoldable pub handle : ℕ → ℕ → List ℕ
+handle b g = b ∷ g % 256 ∷ g / 256 % 256 ∷ g / 65536 % 256 ∷ []
+
+abbrev pub noHandle : List ℕ
+noHandle = 0 ∷ 0 ∷ 0 ∷ 0 ∷ []
+
+-- Reply number, object, outcome × 32 + signal, count, two value bytes, 18 actions, a handle.
+unfoldable pub bytes : ℕ → ℕ → ℕ → ℕ → ℕ → ℕ → ℕ → List ℕ → List ℕ → List ℕ
+bytes n p outcome g count v w acts event = n ∷ p ∷ (outcome * 32 + g) ∷ count ∷ v ∷ w ∷ (padded mostActions acts ++ event)
 
 unfoldable pub replyOf : Said → List ℕ
-replyOf (no n) = bytes n 0 0 0 0 0 0 []
-replyOf (badChart c) = bytes CHART 0 0 0 0 c 0 []
-replyOf (done v w) = bytes DONE 0 0 0 0 v w []
-replyOf (made b g mark) = bytes DONE 0 0 0 mark b g []
-replyOf (ran p g v w row) = bytes DONE p (getD row 1 0) g (getD row 2 0) v w (drop 3 row)
-replyOf (shown l) = bytes DONE 0 0 0 (length (take mostActions l)) (length l) 0 l
+replyOf (no n) = bytes n 0 0 0 0 0 0 [] noHandle
+replyOf (badChart c) = bytes CHART 0 0 0 0 c 0 [] noHandle
+replyOf (done v w) = bytes DONE 0 0 0 0 v w [] noHandle
+replyOf (made b gen mark) = bytes DONE 0 0 0 mark 0 0 [] (handle b gen)
+replyOf (ran p g first gen row) = bytes DONE p (getD row 1 0) g (getD row 2 0) 0 0 (drop 3 row) (handle first gen)
+replyOf (shown l) = bytes DONE 0 0 0 (length (take mostActions l)) (length l) 0 l noHandle
 
 -- The areas that a call is lent, and what it answers: the state, the reply, and the areas.
 pub record Areas : Type 0 where

@@ -18,7 +18,7 @@ use Rattle.machine.specs.Inv.{IsEvent, IsSignal}
 use Rattle.machine.specs.Numbers.{tableBytes}
 use Rattle.machine.specs.Reply.{lowest}
 use Rattle.machine.specs.State.{State, restOf, slotOf, withCells, withBoxes, withRests}
-use Rattle.machine.specs.Steps.{toRun, coming, signalOf, handle₁, nextRow, stepTests, logged}
+use Rattle.machine.specs.Steps.{toRun, coming, signalOf, firstByte, nextRow, stepTests, logged}
 
 -- What changes from step to step: how many there were, the mailboxes, the states of rest, the log, and how often each block is let go.
 pub record Run : Type 0 where
@@ -86,7 +86,7 @@ module _ (gens signals seats tables : List ℕ) where
     boxes = tookFront (x .boxes) (toRun (seen gens signals seats x) - 1);
     rests = set (x .rests) (toRun (seen gens signals seats x) - 1) (getD (nextRow (seen gens signals seats x) tables) 0 0);
     log = logged (seen gens signals seats x) tables (x .steps) (x .log);
-    times = onceMore (x .times) (handle₁ (coming (seen gens signals seats x)));
+    times = onceMore (x .times) (firstByte (coming (seen gens signals seats x)));
   }
 
   -- at most k steps more

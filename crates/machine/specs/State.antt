@@ -32,7 +32,7 @@ pub record Timers : Type 0 where
   pub intervals : List ℕ
 
 pub record State : Type 0 where
-  -- the 56 blocks: free, or live with so many references
+  -- the 56 blocks: free, live with so many references, or retired
   pub cells : List Cell
   -- of each pool the least number of free blocks so far
   pub marks : List ℕ

@@ -30,15 +30,15 @@ signalOf s Nothing = 0
 signalOf s (Block b) = signalIn s b
 signalOf s (Timer t g) = g
 
-unfoldable pub handle₁ : Hand → ℕ
-handle₁ Nothing = 0
-handle₁ (Block b) = b
-handle₁ (Timer t g) = 128 + t
+unfoldable pub firstByte : Hand → ℕ
+firstByte Nothing = 0
+firstByte (Block b) = b
+firstByte (Timer t g) = 128 + t
 
-unfoldable pub handle₂ : State → Hand → ℕ
-handle₂ s Nothing = 0
-handle₂ s (Block b) = generationAt (s .cells) b
-handle₂ s (Timer t g) = 0
+unfoldable pub generationIn : State → Hand → ℕ
+generationIn s Nothing = 0
+generationIn s (Block b) = generationAt (s .cells) b
+generationIn s (Timer t g) = 0
 
 unfoldable pub nextRow : State → List ℕ → List ℕ
 nextRow s tables = rowAt tables (slotSize * slotOf s (toRun s) + place (restOf s (toRun s)) (signalOf s (coming s)))
@@ -61,7 +61,7 @@ stepped s tables =
     (withHand (coming s) s))
 
 unfoldable pub nextSays : State → List ℕ → Said
-nextSays s tables = ran (toRun s) (signalOf s (coming s)) (handle₁ (coming s)) (handle₂ s (coming s)) (nextRow s tables)
+nextSays s tables = ran (toRun s) (signalOf s (coming s)) (firstByte (coming s)) (generationIn s (coming s)) (nextRow s tables)
 
 unfoldable pub next : Bool → State → Areas → Answer
 next spoilt s z = unless (lowest (nextTests spoilt s (z .tables))) s z (answer (stepped s (z .tables)) (nextSays s (z .tables)) z)

@@ -60,7 +60,12 @@ pub const SLOTS: usize = 4;
 // What is lent and answered: a record, a reply, the three areas. The log has a line for each of the most steps of a DRAIN.
 pub const RECORD_BYTES: usize = 72;
 
-pub const REPLY_BYTES: usize = 24;
+// A reply ends with a handle: the first byte, and a generation of three bytes.
+pub const HANDLE: usize = 24;
+
+pub const GENERATION: usize = HANDLE + 1;
+
+pub const REPLY_BYTES: usize = 28;
 
 pub const PAYLOAD_AREA: usize = 1536;
 

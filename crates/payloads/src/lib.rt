@@ -101,7 +101,7 @@ pub fn new(
 }
 
 // The tests of READ.
-fn read_no(k: Kernel, spoilt: bool, b: usize, generation: u8, payloads: &[u8]) -> u8
+fn read_no(k: Kernel, spoilt: bool, b: usize, generation: u32, payloads: &[u8]) -> u8
     ensures { λ r. ⌜ r ≡ lowest (readTests spoilt b generation (stateOf k) (now (payloads .entry))) ⌝ }
 {
     let stale = pool::stale(k.pool, b, generation);
@@ -120,7 +120,7 @@ fn payload_in<'a>(k: Kernel, b: usize, payloads: &'a [u8]) -> &'a [u8]
 }
 
 // READ handle.
-pub fn read(k: Kernel, spoilt: bool, b: usize, generation: u8, payloads: &[u8]) -> Answered
+pub fn read(k: Kernel, spoilt: bool, b: usize, generation: u32, payloads: &[u8]) -> Answered
     requires { ⌜ Good k ⌝ }
     ensures { λ r. ⌜ ((t l : List ℕ) → answered r (areas (now (payloads .entry)) t l)
         ≡ machine.read spoilt b generation (stateOf k) (areas (now (payloads .entry)) t l)) ⌝ }
@@ -146,7 +146,7 @@ pub fn no_part() -> Part
 }
 
 // Where the part that READ hands back begins, and how long it is; 0 and 0 when refused.
-pub fn read_at(k: Kernel, spoilt: bool, b: usize, generation: u8, payloads: &[u8]) -> Part
+pub fn read_at(k: Kernel, spoilt: bool, b: usize, generation: u32, payloads: &[u8]) -> Part
     requires { ⌜ Good k ⌝ }
     ensures { λ r. ⌜ readAt spoilt b generation (stateOf k) (now (payloads .entry)) ≡ (r .place, r .length) ⌝ }
     ensures { λ r. ⌜ r .place + r .length ≤ length (now (payloads .entry)) ⌝ }

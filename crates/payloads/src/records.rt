@@ -11,6 +11,7 @@ ghost use Rattle.state.specs.View.{answered, areas, Good, stateOf};
 use super::Part;
 use arguments::FIRST_PAYLOAD;
 use arguments::arg;
+use arguments::generation;
 use arguments::spoilt;
 use arguments::spoilt_new;
 use ground::byte_at;
@@ -43,9 +44,9 @@ pub fn read_command(k: Kernel, record: &[u8], payloads: &[u8]) -> Answered
 {
     super::read(
         k,
-        spoilt(record, 2),
+        spoilt(record, 4),
         arg(record, 1),
-        byte_at(record, 2),
+        generation(record),
         payloads,
     )
 }
@@ -53,15 +54,15 @@ pub fn read_command(k: Kernel, record: &[u8], payloads: &[u8]) -> Answered
 // Where the part that READ hands back begins, and how long it is.
 pub fn read_at_of(k: Kernel, record: &[u8], payloads: &[u8]) -> Part
     requires { ⌜ Good k ⌝ }
-    ensures { λ r. ⌜ readAt (machine.spoilt 2 (now («record» .entry))) (getD (now («record» .entry)) 1 0) (getD (now («record» .entry)) 2 0)
+    ensures { λ r. ⌜ readAt (machine.spoilt 4 (now («record» .entry))) (getD (now («record» .entry)) 1 0) (machine.generation (now («record» .entry)))
         (stateOf k) (now (payloads .entry)) ≡ (r .place, r .length) ⌝ }
     ensures { λ r. ⌜ r .place + r .length ≤ length (now (payloads .entry)) ⌝ }
 {
     super::read_at(
         k,
-        spoilt(record, 2),
+        spoilt(record, 4),
         arg(record, 1),
-        byte_at(record, 2),
+        generation(record),
         payloads,
     )
 }

@@ -1,15 +1,13 @@
 // The block pool: 56 blocks in three pools, each with a generation and a count of references, the set of those that are free, and the
 // mark of each pool, its least number of free blocks so far. What stands above relies on the promises alone, which speak of `cells p`,
 // the row of blocks that a pool stands for, and of `marks p`.
-ghost use mathlib.Core.Bool.{Bool};
+ghost use mathlib.Core.Bool.{Bool, false};
 ghost use mathlib.Core.Path.{_≡_};
-ghost use mathlib.Core.List.{List};
 ghost use Prim.Native.Nat.{ℕ, _-_, _<_, _≤_, min};
-ghost use lib.ListN.{length};
 ghost use Rattle.bits.specs.Members.{members, width};
 ghost use Rattle.ground.specs.Range.{countFrom, tab};
-ghost use Rattle.pool.specs.Cell.{isNew, atLast, nextGeneration, more, fewer, fewerBy, dropped};
-ghost use Rattle.pool.specs.Inside.{cells, freed, freedIf, marks, rowOf, Sized};
+ghost use Rattle.pool.specs.Cell.{isNew, atLast, more, fewer, fewerBy, dropped};
+ghost use Rattle.pool.specs.Inside.{cells, freedIf, marks, rowOf, wentBack, Sized};
 ghost use Rattle.pool.specs.Mark.{freshMarks};
 ghost use Rattle.pool.specs.Promise.{Takes, Frees};
 ghost use Rattle.pool.specs.Row.{changed, freshRow, generationAt, staleAt, poolFor, goneAll, goneTimes, blocks};
@@ -24,14 +22,16 @@ use numbers::MIDDLE;
 use numbers::MIDDLE_BYTES;
 use numbers::SMALL_BYTES;
 
-const LAST_GENERATION: u8 = 255;
+const LAST_GENERATION: u32 = 16777215;
 
-// What a live block's count of references says: none yet, the last one, as many as are counted.
+// What a block's count of references says: none yet, the last one, as many as are counted; and one above these, that it is retired.
 const NEW: u16 = 0;
 
 const LAST: u16 = 1;
 
 const MOST: u16 = 65534;
+
+const RETIRED: u16 = MOST + 1;
 
 // The set of all blocks.
 const ALL: u64 = (1u64 << BLOCKS) - 1;
@@ -45,7 +45,7 @@ const SIZES: [u8; POOLS] = [MIDDLE as u8, (LARGE - MIDDLE) as u8, (BLOCKS - LARG
 #[repr(C)]
 pub struct Pool {
     free: u64,
-    gens: [u8; BLOCKS],
+    gens: [u32; BLOCKS],
     counts: [u16; BLOCKS],
     marks: [u8; POOLS],
 }
@@ -80,7 +80,7 @@ pub fn fresh() -> Pool
 {
     Pool {
         free: ALL,
-        gens: [0u8; BLOCKS],
+        gens: [0u32; BLOCKS],
         counts: [NEW; BLOCKS],
         marks: SIZES,
     }
@@ -175,25 +175,36 @@ pub fn add(p: Pool, b: usize) -> Pool
     q
 }
 
-fn next_generation(g: u8) -> u8
-    ensures { λ r. ⌜ r ≡ nextGeneration g ⌝ }
+// Block b, which is not free, goes back, in the two arrays: whether it is free then. At the last generation it is retired.
+fn set_back(gens: &mut [u32; BLOCKS], counts: &mut [u16; BLOCKS], b: usize) -> bool
+    requires { ⌜ Sized (now gens) (now counts) × (b < blocks) ⌝ }
+    ensures { λ r. ⌜ ((frees : ℕ → Bool) → frees b ≡ false →
+        rowOf (now (gens .exit)) (now (counts .exit)) (freedIf r b frees) ≡ changed wentBack (rowOf (now (gens .entry)) (now (counts .entry)) frees) b) ⌝ }
+    ensures { λ _. ⌜ Sized (now (gens .exit)) (now (counts .exit)) ⌝ }
 {
-    if g == LAST_GENERATION { 0 } else { g + 1 }
+    let g = gens[b];
+    if LAST_GENERATION <= g {
+        counts[b] = RETIRED;
+        return false;
+    }
+    gens[b] = g + 1;
+    true
 }
 
-// Block b is free, one generation on. The counts have no part in it.
-fn set_free(gens: &mut [u8; BLOCKS], free: &mut u64, b: usize)
-    requires { ⌜ (length (now gens) ≡ blocks) × (b < blocks) ⌝ }
-    ensures { λ _. ⌜ ((counts : List ℕ) →
-        rowOf (now (gens .exit)) counts (members (now (free .exit))) ≡ changed freed (rowOf (now (gens .entry)) counts (members (now (free .entry)))) b) ⌝ }
-    ensures { λ _. ⌜ length (now (gens .exit)) ≡ blocks ⌝ }
+// Block b, which is not free, goes back.
+fn go_back(gens: &mut [u32; BLOCKS], counts: &mut [u16; BLOCKS], free: &mut u64, b: usize)
+    requires { ⌜ Sized (now gens) (now counts) × (b < blocks) × (members (now free) b ≡ false) ⌝ }
+    ensures { λ _. ⌜ rowOf (now (gens .exit)) (now (counts .exit)) (members (now (free .exit)))
+        ≡ changed wentBack (rowOf (now (gens .entry)) (now (counts .entry)) (members (now (free .entry)))) b ⌝ }
+    ensures { λ _. ⌜ Sized (now (gens .exit)) (now (counts .exit)) ⌝ }
 {
-    gens[b] = next_generation(gens[b]);
-    *free = bits::with(*free, b);
+    if set_back(gens, counts, b) {
+        *free = bits::with(*free, b);
+    }
 }
 
-// One reference fewer in the parts of a pool; the last one frees the block.
-fn let_go_in(gens: &mut [u8; BLOCKS], counts: &mut [u16; BLOCKS], free: &mut u64, b: usize) -> bool
+// One reference fewer in the parts of a pool; with the last one the block goes back.
+fn let_go_in(gens: &mut [u32; BLOCKS], counts: &mut [u16; BLOCKS], free: &mut u64, b: usize) -> bool
     requires { ⌜ Sized (now gens) (now counts) ⌝ }
     ensures { λ r. ⌜ Frees fewer atLast (rowOf (now (gens .entry)) (now (counts .entry)) (members (now (free .entry)))) b
         (rowOf (now (gens .exit)) (now (counts .exit)) (members (now (free .exit)))) r ⌝ }
@@ -210,28 +221,59 @@ fn let_go_in(gens: &mut [u8; BLOCKS], counts: &mut [u16; BLOCKS], free: &mut u64
         return false;
     }
     if n == LAST {
-        set_free(gens, free, b);
+        go_back(gens, counts, free, b);
         return true;
+    }
+    if MOST < n {
+        return false;
     }
     counts[b] = n - 1;
     false
 }
 
-// One reference fewer; the last one frees the block.
+// A new block goes back in the parts of a pool.
+fn drop_in(gens: &mut [u32; BLOCKS], counts: &mut [u16; BLOCKS], free: &mut u64, b: usize) -> bool
+    requires { ⌜ Sized (now gens) (now counts) ⌝ }
+    ensures { λ r. ⌜ Frees dropped isNew (rowOf (now (gens .entry)) (now (counts .entry)) (members (now (free .entry)))) b
+        (rowOf (now (gens .exit)) (now (counts .exit)) (members (now (free .exit)))) r ⌝ }
+    ensures { λ _. ⌜ Sized (now (gens .exit)) (now (counts .exit)) ⌝ }
+{
+    if BLOCKS <= b {
+        return false;
+    }
+    if bits::has(*free, b) {
+        return false;
+    }
+    if counts[b] != NEW {
+        return false;
+    }
+    go_back(gens, counts, free, b);
+    true
+}
+
+// The pool with other parts. The marks have no part in it.
+fn with_parts(p: Pool, gens: [u32; BLOCKS], counts: [u16; BLOCKS], free: u64) -> Pool
+    ensures { λ r. ⌜ cells r ≡ rowOf gens counts (members free) ⌝ }
+    ensures { λ r. ⌜ marks r ≡ marks p ⌝ }
+{
+    let mut q = p;
+    q.gens = gens;
+    q.counts = counts;
+    q.free = free;
+    q
+}
+
+// One reference fewer; with the last one the block goes back.
 pub fn let_go(p: Pool, b: usize) -> Gone
     ensures { λ r. ⌜ Frees fewer atLast (cells p) b (cells (r .pool)) (r .freed) ⌝ }
     ensures { λ r. ⌜ marks (r .pool) ≡ marks p ⌝ }
 {
-    let mut q = p;
-    let mut gens = q.gens;
-    let mut counts = q.counts;
-    let mut free = q.free;
+    let mut gens = p.gens;
+    let mut counts = p.counts;
+    let mut free = p.free;
     let freed = let_go_in(&mut gens, &mut counts, &mut free, b);
-    q.gens = gens;
-    q.counts = counts;
-    q.free = free;
     Gone {
-        pool: q,
+        pool: with_parts(p, gens, counts, free),
         freed: freed,
     }
 }
@@ -241,24 +283,20 @@ pub fn let_go_all(p: Pool, list: &[u8]) -> Pool
     ensures { λ r. ⌜ cells r ≡ goneAll (cells p) (now (list .entry)) ⌝ }
     ensures { λ r. ⌜ marks r ≡ marks p ⌝ }
 {
-    let mut q = p;
-    let mut gens = q.gens;
-    let mut counts = q.counts;
-    let mut free = q.free;
+    let mut gens = p.gens;
+    let mut counts = p.counts;
+    let mut free = p.free;
     let mut i = 0;
     while i < list.len() {
         let_go_in(&mut gens, &mut counts, &mut free, wide(list[i]));
         i += 1;
     }
-    q.gens = gens;
-    q.counts = counts;
-    q.free = free;
-    q
+    with_parts(p, gens, counts, free)
 }
 
-// So many references fewer in the parts of a pool: whether that frees the block, which is then a generation on.
+// So many references fewer in the two arrays: whether the block is free then, where it was not.
 fn let_go_some(
-    gens: &mut [u8; BLOCKS],
+    gens: &mut [u32; BLOCKS],
     counts: &mut [u16; BLOCKS],
     free: u64,
     b: usize,
@@ -276,6 +314,9 @@ fn let_go_some(
         return false;
     }
     let held = counts[b];
+    if MOST < held {
+        return false;
+    }
     let fewer = times as u16;
     if fewer < held {
         counts[b] = held - fewer;
@@ -284,8 +325,7 @@ fn let_go_some(
     if held == NEW {
         return false;
     }
-    gens[b] = next_generation(gens[b]);
-    true
+    set_back(gens, counts, b)
 }
 
 // Each block is let go as often as a list says.
@@ -293,10 +333,9 @@ pub fn let_go_each(p: Pool, times: &[u8; FIRST_BYTES]) -> Pool
     ensures { λ r. ⌜ cells r ≡ goneTimes (cells p) (now (times .entry)) ⌝ }
     ensures { λ r. ⌜ marks r ≡ marks p ⌝ }
 {
-    let mut q = p;
-    let mut gens = q.gens;
-    let mut counts = q.counts;
-    let was = q.free;
+    let mut gens = p.gens;
+    let mut counts = p.counts;
+    let was = p.free;
     let mut free = was;
     let mut b = 0;
     while b < BLOCKS {
@@ -305,49 +344,26 @@ pub fn let_go_each(p: Pool, times: &[u8; FIRST_BYTES]) -> Pool
         }
         b += 1;
     }
-    q.gens = gens;
-    q.counts = counts;
-    q.free = free;
-    q
+    with_parts(p, gens, counts, free)
 }
 
-// A block that has no reference yet is freed.
+// A block that has no reference yet goes back.
 pub fn drop_new(p: Pool, b: usize) -> Gone
     ensures { λ r. ⌜ Frees dropped isNew (cells p) b (cells (r .pool)) (r .freed) ⌝ }
     ensures { λ r. ⌜ marks (r .pool) ≡ marks p ⌝ }
 {
-    if BLOCKS <= b {
-        return Gone {
-            pool: p,
-            freed: false,
-        };
-    }
-    if bits::has(p.free, b) {
-        return Gone {
-            pool: p,
-            freed: false,
-        };
-    }
-    if p.counts[b] == NEW {
-        let mut q = p;
-        let mut gens = q.gens;
-        let mut free = q.free;
-        set_free(&mut gens, &mut free, b);
-        q.gens = gens;
-        q.free = free;
-        return Gone {
-            pool: q,
-            freed: true,
-        };
-    }
+    let mut gens = p.gens;
+    let mut counts = p.counts;
+    let mut free = p.free;
+    let freed = drop_in(&mut gens, &mut counts, &mut free, b);
     Gone {
-        pool: p,
-        freed: false,
+        pool: with_parts(p, gens, counts, free),
+        freed: freed,
     }
 }
 
 // The generation of a block; 0 where there is no such block.
-pub fn generation(p: Pool, b: usize) -> u8
+pub fn generation(p: Pool, b: usize) -> u32
     ensures { λ r. ⌜ r ≡ generationAt (cells p) b ⌝ }
 {
     if BLOCKS <= b {
@@ -357,20 +373,23 @@ pub fn generation(p: Pool, b: usize) -> u8
 }
 
 // The generation of every block.
-pub fn generations(p: Pool) -> [u8; BLOCKS]
+pub fn generations(p: Pool) -> [u32; BLOCKS]
     ensures { λ r. ⌜ r ≡ tab (generationAt (cells p)) blocks ⌝ }
 {
     p.gens
 }
 
 // Whether the handle of block b at generation g is stale.
-pub fn stale(p: Pool, b: usize, g: u8) -> bool
+pub fn stale(p: Pool, b: usize, g: u32) -> bool
     ensures { λ r. ⌜ r ≡ staleAt (cells p) b g ⌝ }
 {
     if BLOCKS <= b {
         return true;
     }
     if bits::has(p.free, b) {
+        return true;
+    }
+    if MOST < p.counts[b] {
         return true;
     }
     p.gens[b] != g

@@ -1,15 +1,17 @@
-// The 24 bytes of every reply.
+// The 28 bytes of every reply.
+ghost use mathlib.Core.List.{_++_};
 ghost use mathlib.Core.Path.{_≡_};
 ghost use Prim.Native.Nat.{_≤_, _<_};
-ghost use lib.ListN.{length, getD};
+ghost use lib.ListN.{length, getD, take};
 ghost use Rattle.chart.specs.Numbers.{rowSize};
-ghost use Rattle.machine.specs.Numbers.{mostBytes, signalPlaces};
-ghost use Rattle.machine.specs.Reply.{no, badChart, replyOf};
+ghost use Rattle.machine.specs.Numbers.{handlePlace, mostBytes, signalPlaces};
+ghost use Rattle.machine.specs.Reply.{no, badChart, handle, replyOf};
 ghost use Rattle.machine.specs.Reply as said;
 use ground::copy;
 use ground::fill;
 use ground::least;
 use numbers::ACTIONS_IN_ROW;
+use numbers::HANDLE;
 use numbers::MOST_ACTIONS;
 use numbers::REPLY_BYTES;
 use numbers::answer::CHART;
@@ -57,33 +59,41 @@ pub fn done(v: u8, w: u8) -> [u8; REPLY_BYTES]
     r
 }
 
+// The reply with a handle in its last four bytes: the first, and a generation, low byte first.
+fn with_handle(reply: [u8; REPLY_BYTES], first: u8, generation: u32) -> [u8; REPLY_BYTES]
+    ensures { λ r. ⌜ r ≡ take handlePlace reply ++ handle first generation ⌝ }
+{
+    let mut r = reply;
+    let low = (generation % 256) as u8;
+    let middle = (generation / 256 % 256) as u8;
+    let high = (generation / 65536 % 256) as u8;
+    copy(&mut r[HANDLE..REPLY_BYTES], &[first, low, middle, high]);
+    r
+}
+
 // The answer of NEW: the handle, and the pool's mark.
-pub fn made(b: u8, generation: u8, mark: u8) -> [u8; REPLY_BYTES]
+pub fn made(b: u8, generation: u32, mark: u8) -> [u8; REPLY_BYTES]
     ensures { λ r. ⌜ r ≡ replyOf (said.made b generation mark) ⌝ }
 {
     let mut r = [0u8; REPLY_BYTES];
     r[COUNT] = mark;
-    r[FIRST_VALUE] = b;
-    r[SECOND_VALUE] = generation;
-    r
+    with_handle(r, b, generation)
 }
 
-// The answer of START and NEXT: object p took the row with the signal g.
-pub fn ran(p: u8, g: u8, v: u8, w: u8, row: &[u8]) -> [u8; REPLY_BYTES]
+// The answer of START and NEXT: object p took the row with the signal g, for the event of a handle.
+pub fn ran(p: u8, g: u8, first: u8, generation: u32, row: &[u8]) -> [u8; REPLY_BYTES]
     requires { ⌜ (length (now row) ≡ rowSize) × (getD (now row) 1 0 ≤ 2) × (g < signalPlaces) ⌝ }
-    ensures { λ r. ⌜ r ≡ replyOf (said.ran p g v w (now (row .entry))) ⌝ }
+    ensures { λ r. ⌜ r ≡ replyOf (said.ran p g first generation (now (row .entry))) ⌝ }
 {
     let mut r = [0u8; REPLY_BYTES];
     copy(
-        &mut r[ACTIONS..REPLY_BYTES],
+        &mut r[ACTIONS..HANDLE],
         &row[ACTIONS_IN_ROW..ACTIONS_IN_ROW + MOST_ACTIONS],
     );
     r[OBJECT] = p;
     r[OUTCOME] = row[1] * 32 + g;
     r[COUNT] = row[2];
-    r[FIRST_VALUE] = v;
-    r[SECOND_VALUE] = w;
-    r
+    with_handle(r, first, generation)
 }
 
 // The answer of READ: the payload's length, and as much of it as there is room for.
@@ -93,7 +103,7 @@ pub fn shown(payload: &[u8]) -> [u8; REPLY_BYTES]
 {
     let n = payload.len();
     let mut r = [0u8; REPLY_BYTES];
-    fill(&mut r[ACTIONS..REPLY_BYTES], payload);
+    fill(&mut r[ACTIONS..HANDLE], payload);
     r[COUNT] = least(n, MOST_ACTIONS) as u8;
     r[FIRST_VALUE] = n as u8;
     r

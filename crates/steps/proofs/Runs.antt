@@ -75,9 +75,9 @@ module _ (spoilt : Bool) (s : State) (tables : List ℕ) where
 -- The step that NEXT takes.
 pub step-is : (k : Kernel) (tables : List ℕ) (p : ℕ) → p ≡ toRun (stateOf k) → (l : Coming) → Looks (stateOf k) (coming (stateOf k)) l →
     (row : List ℕ) → row ≡ nextRow (stateOf k) tables → (z : Areas) →
-    answer (afterStep (stateOf k) p (getD row 0 0)) (ran p (l .signal) (l .first) (l .second) row) z ≡ answer (stepped (stateOf k) tables) (nextSays (stateOf k) tables) z
+    answer (afterStep (stateOf k) p (getD row 0 0)) (ran p (l .signal) (l .first) (l .generation) row) z ≡ answer (stepped (stateOf k) tables) (nextSays (stateOf k) tables) z
 unfolding stepped nextSays coming
-step-is k tables p e l w row r z = rw (w .signal, w .first, w .second, r, e) refl
+step-is k tables p e l w row r z = rw (w .signal, w .first, w .generation, r, e) refl
 
 -- END, by the block in hand.
 module _ (k : Kernel) where

@@ -83,7 +83,7 @@ fn next_done(k: Kernel, p: usize, l: Coming, row: &[u8]) -> Answered
     requires { ⌜ (1 ≤ p) × (p ≤ objects) × (0 < getD (k .counts) (p - 1) 0) ⌝ }
     requires { ⌜ Runs p l (now row) ⌝ }
     ensures { λ r. ⌜ ((z : Areas) → answered r z ≡
-        answer (afterStep (stateOf k) p (getD (now (row .entry)) 0 0)) (ran p (l .signal) (l .first) (l .second) (now (row .entry))) z) ⌝ }
+        answer (afterStep (stateOf k) p (getD (now (row .entry)) 0 0)) (ran p (l .signal) (l .first) (l .generation) (now (row .entry))) z) ⌝ }
 {
     Answered {
         kernel: step(k, p, row[0]),

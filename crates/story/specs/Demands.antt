@@ -4,27 +4,28 @@ use mathlib.Core.Bool.{true, false, cond, _&&_}
 use mathlib.Core.List.{List, _∷_}
 use mathlib.Core.Logic.{_↔_, _⊎_}
 use mathlib.Core.Path.{_≡_}
-use Prim.Native.Nat.{ℕ, _*_, _-_, _≤_, _<_}
+use Prim.Native.Nat.{ℕ, _+_, _*_, _-_, _≤_, _<_}
 use lib.ListN.{length, getD, take, drop, replicate}
 use Rattle.ground.specs.Bytes.{padded}
 use Rattle.chart.specs.Chart.{classOf, leaf, states}
 use Rattle.chart.specs.Numbers.{slotSize}
 use Rattle.chart.specs.Step.{start}
-use Rattle.pool.specs.Cell.{live, isFree, generationOf, nextGeneration}
+use Rattle.pool.specs.Cell.{live, isFree, isRetired, generationOf, lastGeneration, back}
 use Rattle.pool.specs.Laws.{Lowest}
 use Rattle.pool.specs.Row.{poolFor}
 use Rattle.machine.specs.Charts.{slotUsed}
 use Rattle.machine.specs.Inv.{isLive}
 use Rattle.machine.specs.Machine.{partOf}
 use Rattle.machine.specs.Numbers.{objects, blocks, slots, replyBytes, tableBytes, capacity, placeOf}
-use Rattle.machine.specs.Reply.{DONE, TABLE}
+use Rattle.machine.specs.Reply.{DONE, STALE, TABLE}
 use Rattle.machine.specs.State.{sizeIn, restOf, slotOf, started, isLoaded, isOpen}
 use Rattle.story.specs.Calls.{Call, Story, fresh, then, kernel, answerIn, payloadArea, tableArea, left, OnlyKernel}
 use Rattle.story.specs.Table.{LOAD, START, NEW, NEXT, READ, DRAIN, DEFER, RECALL, FLUSH}
-use Rattle.story.specs.Terms.{argument, reply, number, object, value₁, value₂, Did, appliesTo, chartIn, givenTo, cell, refer, Counts, LastGoes, NewGoes}
+use Rattle.story.specs.Terms.{argument, reply, number, object, value₁, value₂, event, generation, Did, appliesTo, chartIn, givenTo, cell, refer, Counts, LastGoes, NewGoes}
 use Rattle.story.specs.Terms.{nextCall, steps, logLine, says, signalTaken, nested, Unchanged, Takes, Drains, Holds}
 use Rattle.story.specs.Terms.{side, Defers, Recalls, FindsNone, Flushes, Lives}
 use Rattle.story.specs.Terms.{count, mark, Smallest}
+use Rattle.story.specs.Terms.{GoesOn, Names}
 
 -- ## Demand 1
 -- "Any command record, chart and lent area, in any order of calls from a fresh start, gets an answer and never a trap."
@@ -50,6 +51,7 @@ Lengths =
 
 -- ## Demand 2
 -- "A block is free, new, or counted by mailbox entries, holds and the step in hand;", and by side entries since request 3 of document 02;
+-- "free, new, counted or retired" since its request 7;
 abbrev pub Counted : Type 0
 Counted = (h : Story) (b : ℕ) → b < blocks → Counts (cell h b) (refer h b)
 
@@ -58,25 +60,32 @@ Counted = (h : Story) (b : ℕ) → b < blocks → Counts (cell h b) (refer h b)
 abbrev pub Freed : Type 0
 Freed =
     (h : Story) (c : Call) (b : ℕ) → b < blocks → isLive (cell h b) ≡ true →
-    (isFree (cell (then h c) b) ≡ true) ↔ (LastGoes h c b ⊎ NewGoes h c b)
+    (isLive (cell (then h c) b) ≡ false) ↔ (LastGoes h c b ⊎ NewGoes h c b)
 
--- "each time the block is freed, [the generation] goes up by one and wraps from 255 to 0", and at nothing else;
+-- and is then free, one generation on; but "a block freed at generation 16,777,215 is retired";
+abbrev pub GoesBack : Type 0
+GoesBack =
+    (h : Story) (c : Call) (b : ℕ) → b < blocks → isLive (cell h b) ≡ true → isLive (cell (then h c) b) ≡ false →
+    cell (then h c) b ≡ back (generationOf (cell h b))
+
+-- "each time the block is freed, [the generation] goes up by one", up to the last, and at nothing else;
 abbrev pub Generations : Type 0
 Generations =
     (h : Story) (c : Call) (b : ℕ) → b < blocks → let g = generationOf (cell h b) in
-    generationOf (cell (then h c) b) ≡ cond (isLive (cell h b) && isFree (cell (then h c) b)) (nextGeneration g) g
+    (generationOf (cell (then h c) b) ≡ cond (isLive (cell h b) && isFree (cell (then h c) b)) (g + 1) g) × (g ≤ lastGeneration)
 
--- "and is handed out again": NEW hands out the lowest free block of the pool for its size, so a freed one that is this; and only NEW does.
+-- "and is handed out again", a retired block excepted: NEW hands out the lowest free block of the pool for its size, so a freed one that is
+-- this; and only NEW does.
 abbrev pub Handed : Type 0
 Handed =
-    (h : Story) (c : Call) → Did NEW h c → let b = value₁ h c in let g = generationOf (cell h b) in
-    Lowest (kernel h .cells) (poolFor (argument c 2)) b × (value₂ h c ≡ g) × (cell (then h c) b ≡ live g 0)
+    (h : Story) (c : Call) → Did NEW h c → let b = event h c in let g = generationOf (cell h b) in
+    Lowest (kernel h .cells) (poolFor (argument c 2)) b × (generation h c ≡ g) × (cell (then h c) b ≡ live g 0)
 
 abbrev pub Again : Type 0
-Again = (h : Story) (c : Call) (b : ℕ) → Did NEW h c → Lowest (kernel h .cells) (poolFor (argument c 2)) b → value₁ h c ≡ b
+Again = (h : Story) (c : Call) (b : ℕ) → Did NEW h c → Lowest (kernel h .cells) (poolFor (argument c 2)) b → event h c ≡ b
 
 abbrev pub OnlyNew : Type 0
-OnlyNew = (h : Story) (c : Call) (b : ℕ) → isFree (cell h b) ≡ true → isLive (cell (then h c) b) ≡ true → Did NEW h c × (value₁ h c ≡ b)
+OnlyNew = (h : Story) (c : Call) (b : ℕ) → isFree (cell h b) ≡ true → isLive (cell (then h c) b) ≡ true → Did NEW h c × (event h c ≡ b)
 
 -- "The highest-priority object with mail gets its front event." The others' mail stays.
 abbrev pub Taken : Type 0
@@ -125,6 +134,25 @@ OnlyTaking =
     (h : Story) (c : Call) (size : ℕ) → let pool = poolFor size in
     (mark (then h c) pool ≡ mark h pool → ⊥) → Did NEW h c × (poolFor (argument c 2) ≡ pool)
 
+-- ## Document 02, request 7, "handles that come back from the dead"
+-- A handle that a NEW handed out is handed out never again: not in any story that goes on from there.
+abbrev pub HandedOnce : Type 0
+HandedOnce =
+    (h : Story) (c : Call) → Did NEW h c → (later : Story) → GoesOn (then h c) later → (d : Call) → Did NEW later d →
+    event later d ≡ event h c → generation later d ≡ generation h c → ⊥
+
+-- "Every old handle is now refused": once the block that a NEW handed out was freed, each command that names the handle is answered STALE
+-- or a lower number, for ever.
+abbrev pub OldRefused : Type 0
+OldRefused =
+    (h : Story) (c : Call) → Did NEW h c → let b = event h c in let g = generation h c in
+    (gone : Story) → GoesOn (then h c) gone → isLive (cell gone b) ≡ false →
+    (later : Story) → GoesOn gone later → (d : Call) → Names d b g → (DONE < number later d) × (number later d ≤ STALE)
+
+-- A retired block stays retired, and so is "never handed out".
+abbrev pub StaysRetired : Type 0
+StaysRetired = (h : Story) (c : Call) (b : ℕ) → isRetired (cell h b) ≡ true → cell (then h c) b ≡ cell h b
+
 -- ## Demand 3, "as long as nobody but the kernel writes to the tables"
 -- Each loaded slot has the chart of its last LOAD; its table agrees with it, flat and nested, "over any sequence of signals".
 abbrev pub Tables : Type 0
@@ -141,13 +169,13 @@ Starts =
 abbrev pub Nexts : Type 0
 Nexts =
     (h : Story) (c : Call) (first : List ℕ) → OnlyKernel tableArea first (then h c) → Did NEXT h c →
-    (reply h c ≡ says (object h c) (signalTaken h c) (value₁ h c) (value₂ h c) (nested h c)) × (restOf (kernel (then h c)) (object h c) ≡ nested h c .next)
+    (reply h c ≡ says (object h c) (signalTaken h c) (event h c) (generation h c) (nested h c)) × (restOf (kernel (then h c)) (object h c) ≡ nested h c .next)
 
 abbrev pub DrainSteps : Type 0
 DrainSteps =
     (h : Story) (c : Call) (first : List ℕ) → OnlyKernel tableArea first (then h c) → Did DRAIN h c → (i : ℕ) → i < value₁ h c →
     let t = steps h c i in let n = nextCall c in
-    logLine i (answerIn h c .areas .log) ≡ says (object t n) (signalTaken t n) (value₁ t n) (value₂ t n) (nested t n)
+    logLine i (answerIn h c .areas .log) ≡ says (object t n) (signalTaken t n) (event t n) (generation t n) (nested t n)
 
 -- Nothing else changes where an object rests, whoever writes to the tables.
 abbrev pub Rests : Type 0

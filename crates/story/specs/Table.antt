@@ -14,6 +14,7 @@ use Rattle.pool.specs.Cell.{isFree, isNew}
 use Rattle.pool.specs.Row.{at, poolFor, staleAt}
 use Rattle.machine.specs.Aside.{isTimer}
 use Rattle.machine.specs.Charts.{startRow}
+use Rattle.machine.specs.Machine.{generation}
 use Rattle.machine.specs.Numbers.{objects, payloadBytes, tableBytes, logBytes, recordBytes, mostHolds, mostAside, outside}
 use Rattle.machine.specs.Reply.{FORM, AREA, RANGE, BUSY, NOSTEP, IDLE, STALE, ABSENT, TAKEN, FULL, DRY, HOLDS, INUSE, CHART, TABLE, Areas}
 use Rattle.machine.specs.State.{State, signalIn, holdsOn, sideOf, slotOf, started, room, isLoaded, subscribed, armed, isOpen}
@@ -108,7 +109,7 @@ isOutside timer n = outside 0 15 n
 isOutside side n = outside 0 7 n
 isOutside any n = false
 
--- The arguments of command n, in order, from byte 1 of the record on. Any: a generation, the bytes of ticks and interval, a budget.
+-- The arguments of command n, in order, from byte 1 of the record on. Any: the bytes of a generation, of ticks and of an interval, a budget.
 unfoldable pub line : {A : Type 0} → List (ℕ × A) → A → ℕ → A
 line [] a n = a
 line (x ∷ l) a n = cond (eqb (x .0) n) (x .1) (line l a n)
@@ -119,17 +120,17 @@ arguments =
     (LOAD, slot ∷ [])
     ∷ (START, object ∷ slot ∷ depth ∷ [])
     ∷ (NEW, signal ∷ size ∷ [])
-    ∷ (POST, block ∷ any ∷ object ∷ margin ∷ [])
-    ∷ (POSTFRONT, block ∷ any ∷ object ∷ [])
-    ∷ (PUBLISH, block ∷ any ∷ [])
+    ∷ (POST, block ∷ any ∷ any ∷ any ∷ object ∷ margin ∷ [])
+    ∷ (POSTFRONT, block ∷ any ∷ any ∷ any ∷ object ∷ [])
+    ∷ (PUBLISH, block ∷ any ∷ any ∷ any ∷ [])
     ∷ (SUBSCRIBE, object ∷ signal ∷ [])
     ∷ (UNSUBSCRIBE, object ∷ signal ∷ [])
-    ∷ (HOLD, block ∷ any ∷ [])
-    ∷ (RELEASE, block ∷ any ∷ [])
-    ∷ (DROP, block ∷ any ∷ [])
+    ∷ (HOLD, block ∷ any ∷ any ∷ any ∷ [])
+    ∷ (RELEASE, block ∷ any ∷ any ∷ any ∷ [])
+    ∷ (DROP, block ∷ any ∷ any ∷ any ∷ [])
     ∷ (ARM, timer ∷ object ∷ signal ∷ any ∷ any ∷ any ∷ any ∷ [])
     ∷ (DISARM, timer ∷ [])
-    ∷ (READ, block ∷ any ∷ [])
+    ∷ (READ, block ∷ any ∷ any ∷ any ∷ [])
     ∷ (DRAIN, any ∷ [])
     ∷ (DEFER, side ∷ [])
     ∷ (RECALL, side ∷ object ∷ [])
@@ -170,6 +171,10 @@ someObject ok (suc n) = ok (suc n) || someObject ok n
 unfoldable pub dry : State → ℕ → Bool
 dry s n = every (λ b. not (isFree (at (s .cells) b))) (poolFor n .from) (poolFor n .to)
 
+-- The commands that name an event by its handle.
+abbrev pub namers : List ℕ
+namers = POST ∷ POSTFRONT ∷ PUBLISH ∷ HOLD ∷ RELEASE ∷ DROP ∷ READ ∷ []
+
 -- Of one call: the command n, the state s, the record r, the chart d, the areas z.
 module _ (n : ℕ) (s : State) (r d : List ℕ) (z : Areas) where
   abbrev byte : ℕ → ℕ
@@ -178,12 +183,12 @@ module _ (n : ℕ) (s : State) (r d : List ℕ) (z : Areas) where
   abbrev is : List ℕ → Bool
   is names = oneOf names n
 
-  -- the object that a command names, and whether it has a handle, which is then in bytes 1 and 2
+  -- the object that a command names, and whether it has a handle, which is then in bytes 1 to 4
   abbrev p : ℕ
   p = objectIn r 1 (arguments n)
 
   abbrev hasHandle : Bool
-  hasHandle = is (POST ∷ POSTFRONT ∷ PUBLISH ∷ HOLD ∷ RELEASE ∷ DROP ∷ READ ∷ [])
+  hasHandle = is namers
 
   -- an unused byte is not 0: one past the arguments; in NEW also a payload byte past the size, none if the size is above 64
   unfoldable pub unusedByte : Bool
@@ -222,12 +227,12 @@ module _ (n : ℕ) (s : State) (r d : List ℕ) (z : Areas) where
       ∷ (BUSY, is (LOAD ∷ START ∷ NEXT ∷ DRAIN ∷ []) && isOpen (s .hand))
       ∷ (NOSTEP, is (END ∷ DEFER ∷ []) && not (isOpen (s .hand)))
       ∷ (IDLE, is (NEXT ∷ []) && eqb (queued (s .boxes)) 0)
-      ∷ (STALE, hasHandle && staleAt (s .cells) (byte 1) (byte 2) || is (DEFER ∷ []) && isTimer (s .hand))
+      ∷ (STALE, hasHandle && staleAt (s .cells) (byte 1) (generation r) || is (DEFER ∷ []) && isTimer (s .hand))
       ∷ (ABSENT, is (POST ∷ POSTFRONT ∷ SUBSCRIBE ∷ UNSUBSCRIBE ∷ ARM ∷ RECALL ∷ []) && not (started s p) || is (START ∷ []) && not (isLoaded s (byte 2)))
       ∷ (TAKEN, is (START ∷ []) && started s p || (is (LOAD ∷ []) && slotInUse || is (ARM ∷ []) && armed s (byte 1)))
       ∷ (
         FULL,
-        is (POST ∷ []) && leb (room s p) (byte 4)
+        is (POST ∷ []) && leb (room s p) (byte 6)
             || (is (POSTFRONT ∷ []) && eqb (room s p) 0
             || (is (PUBLISH ∷ []) && fullSubscriber
             || (is (DEFER ∷ []) && fullSide

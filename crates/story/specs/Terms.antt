@@ -14,19 +14,20 @@ use Rattle.chart.specs.Step.{step}
 use Rattle.mail.specs.Box.{front, one, queued, rest, timesIn}
 use Rattle.mail.specs.Entry.{entryOf, handOf}
 use Rattle.mail.specs.declared.Hand.the-variants.{Block}
-use Rattle.pool.specs.Cell.{Cell, free, live, absent}
+use Rattle.pool.specs.Cell.{Cell, free, live, retired, absent}
 use Rattle.pool.specs.Mark.{freeIn, markOf}
 use Rattle.pool.specs.Row.{at}
 use Rattle.pool.specs.declared.Span.{Span}
 use Rattle.machine.specs.Events.{receivers}
 use Rattle.machine.specs.Inv.{isLive, references}
+use Rattle.machine.specs.Machine as machine
 use Rattle.machine.specs.Machine.{payload, partOf}
-use Rattle.machine.specs.Numbers.{blocks, objects, replyBytes}
-use Rattle.machine.specs.Reply.{DONE, CHART, TABLE, bytes}
+use Rattle.machine.specs.Numbers.{blocks, objects, handlePlace, replyBytes}
+use Rattle.machine.specs.Reply.{DONE, CHART, TABLE, bytes, handle}
 use Rattle.machine.specs.State.{signalIn, boxOf, restOf, sideOf, slotOf}
-use Rattle.machine.specs.Steps.{signalOf, handle₁, handle₂}
+use Rattle.machine.specs.Steps.{signalOf, firstByte, generationIn}
 use Rattle.story.specs.Calls.{areBytes, Call, Story, fresh, then, kernel, answerIn}
-use Rattle.story.specs.Table.{LOAD, NEW, PUBLISH, DROP, NEXT, END, applies}
+use Rattle.story.specs.Table.{LOAD, NEW, PUBLISH, DROP, NEXT, END, applies, namers, oneOf}
 
 -- A call's number and arguments; of its reply, the bytes by name; that it was command n and was done.
 abbrev pub commandOf : Call → ℕ
@@ -53,6 +54,13 @@ value₁ h c = getD (reply h c) 4 0
 abbrev pub value₂ : Story → Call → ℕ
 value₂ h c = getD (reply h c) 5 0
 
+-- The handle that a reply ends with: its first byte, a block or 128 and a timer, and its generation, low byte first.
+abbrev pub event : Story → Call → ℕ
+event h c = getD (reply h c) handlePlace 0
+
+abbrev pub generation : Story → Call → ℕ
+generation h c = getD (reply h c) 25 0 + 256 * getD (reply h c) 26 0 + 65536 * getD (reply h c) 27 0
+
 abbrev pub Did : ℕ → Story → Call → Type 0
 Did n h c = (commandOf c ≡ n) × (number h c ≡ DONE)
 
@@ -70,7 +78,7 @@ chartIn (then h c) q = cond (does LOAD h c && eqb (argument c 1) q) (c .chart) (
 
 unfoldable pub givenTo : Story → ℕ → List ℕ
 givenTo fresh b = []
-givenTo (then h c) b = cond (does NEW h c && eqb (value₁ h c) b) (take (argument c 2) (payload (c .command))) (givenTo h b)
+givenTo (then h c) b = cond (does NEW h c && eqb (event h c) b) (take (argument c 2) (payload (c .command))) (givenTo h b)
 
 -- Block b after a story, and what refers to it.
 abbrev pub cell : Story → ℕ → Cell
@@ -79,10 +87,11 @@ cell h b = at (kernel h .cells) b
 abbrev pub refer : Story → ℕ → ℕ
 refer h b = references (kernel h) b
 
--- A block to which n things refer: free if it is so, and then n is 0; else new if n is 0, and counted from 1 on.
+-- A block to which n things refer: free or retired if it is so, and then n is 0; else new if n is 0, and counted from 1 on.
 unfoldable pub Counts : Cell → ℕ → Type 0
 Counts (free g) n = n ≡ 0
 Counts (live g m) n = m ≡ n
+Counts (retired g) n = n ≡ 0
 Counts absent n = ⊥
 
 -- Its last reference goes in the call. It is new, and is dropped or published to nobody.
@@ -108,6 +117,17 @@ earlier zero h = h
 earlier (suc k) fresh = fresh
 earlier (suc k) (then h c) = earlier k h
 
+-- A story goes on from h: after some further calls, or none.
+pub record GoesOn (h later : Story) : Type 0 where
+  pub calls : ℕ
+  pub before : earlier calls later ≡ h
+
+-- A call names the handle of block b at generation g.
+pub record Names (c : Call) (b g : ℕ) : Type 0 where
+  pub command : oneOf namers (commandOf c) ≡ true
+  pub block : argument c 1 ≡ b
+  pub generation : machine.generation (c .command) ≡ g
+
 -- n is the smallest number of free blocks that a pool had at any point of a story: at one point it had n, and at none fewer.
 pub record Smallest (h : Story) (pool : Span) (n : ℕ) : Type 0 where
   pub point : ℕ
@@ -131,9 +151,9 @@ steps h c (suc k) = then (then (steps h c k) (nextCall c)) (endCall c)
 abbrev pub logLine : ℕ → List ℕ → List ℕ
 logLine i log = take replyBytes (drop (replyBytes * i) log)
 
--- START and NEXT answer for the object p and the signal g, with two values, what a chart answers.
+-- START and NEXT answer for the object p and the signal g, with the handle of an event, what a chart answers.
 abbrev pub says : ℕ → ℕ → ℕ → ℕ → Step.Answer → List ℕ
-says p g v w a = bytes DONE p (a .outcome) g (length (a .acts)) v w (a .acts)
+says p g first gen a = bytes DONE p (a .outcome) g (length (a .acts)) 0 0 (a .acts) (handle first gen)
 
 -- What a call that is a NEXT steps by: the signal of the event that it takes, and the nested step from its object's rest.
 abbrev pub signalTaken : Story → Call → ℕ
@@ -148,7 +168,7 @@ pub record Unchanged (h : Story) (c : Call) : Type 0 where
   pub state : kernel (then h c) ≡ kernel h
   pub areas : answerIn h c .areas ≡ c .areas
   pub part : partOf (kernel h) (c .command) (c .areas .payloads) ≡ []
-  pub says : reply h c ≡ number h c ∷ 0 ∷ 0 ∷ 0 ∷ cond (eqb (number h c) CHART) (classOf (c .chart)) 0 ∷ replicate 19 0
+  pub says : reply h c ≡ number h c ∷ 0 ∷ 0 ∷ 0 ∷ cond (eqb (number h c) CHART) (classOf (c .chart)) 0 ∷ replicate 23 0
 
 -- A call takes the front event of the object p, the highest with mail; the others' mail stays.
 pub record Takes (h : Story) (c : Call) (p : ℕ) : Type 0 where
@@ -159,7 +179,7 @@ pub record Takes (h : Story) (c : Call) (p : ℕ) : Type 0 where
   pub in-hand : kernel (then h c) .hand ≡ handOf (front (kernel h .boxes) (p - 1))
   pub left : boxOf (kernel (then h c)) p ≡ rest (boxOf (kernel h) p)
   pub others : (q : ℕ) → 1 ≤ q → (q ≡ p → ⊥) → boxOf (kernel (then h c)) q ≡ boxOf (kernel h) q
-  pub handle : (value₁ h c ≡ handle₁ (kernel (then h c) .hand)) × (value₂ h c ≡ handle₂ (kernel h) (kernel (then h c) .hand))
+  pub handle : (event h c ≡ firstByte (kernel (then h c) .hand)) × (generation h c ≡ generationIn (kernel h) (kernel (then h c) .hand))
 
 -- A call does n times NEXT and END: its steps are the fall in queued entries, its log has a line for each, and how it stops is its value.
 pub record Drains (h : Story) (c : Call) (n : ℕ) : Type 0 where

@@ -2,7 +2,7 @@ use borrow.Author.Needs.{needs}
 use mathlib.Core.Path.{refl, sym, _∙_}
 use native.Mathlib.Omega.{arith}
 use Rattle.machine.specs.Inv.{IsEvent}
-use Rattle.machine.specs.Steps.{signalOf, handle₁, handle₂}
+use Rattle.machine.specs.Steps.{signalOf, firstByte, generationIn}
 use Rattle.drain.proofs.look.Statement.{statement}
 use Rattle.drain.proofs.look.Tie as tie
 
@@ -13,10 +13,10 @@ in-range c =
     let b = c .before .before .before .before in
     omega (arith, c .wide .ensures .0, rw (← b .hand-of .ensures, c .before .before .b .given .1) at (b .before .pre))
 
-in-range-2 : tie.Need-element-copy-out-t15
+in-range-2 : tie.Need-element-copy-out-t16
 in-range-2 c = in-range (c .before)
 
-fits : tie.Need-add-t16
+fits : tie.Need-add-t17
 unfolding IsEvent
 fits c =
     let b = c .before .before .before in
@@ -27,21 +27,21 @@ unfolding IsEvent
 returns c = λ s e g. absurd (rw (← c .before .before .hand-of .ensures, c .enum-told .given .1) at (c .before .before .before .pre))
 
 returns-2 : tie.Need-returns-2
-unfolding signalOf handle₁ handle₂ IsEvent
+unfolding signalOf firstByte generationIn IsEvent
 returns-2 c = λ s e g.
     let b = c .before .before .before .before .before .before in
     let h = sym (b .hand-of .ensures) ∙ c .before .before .before .before .b .given .1 in
     let w = c .before .before .wide .ensures .0 in
-    record { signal = rw (w, h, e) refl; first = rw h refl; second = rw (w, h) (sym (g _ (rw h at (b .before .pre)))) }
+    record { signal = rw (w, h, e) refl; first = rw h refl; generation = rw (w, h) (sym (g _ (rw h at (b .before .pre)))) }
 
 returns-3 : tie.Need-returns-3
-unfolding signalOf handle₁ handle₂
+unfolding signalOf firstByte generationIn
 returns-3 c = λ s e g.
     let h = sym (c .before .before .before .hand-of .ensures) ∙ c .before .t .given .1 in
-    record { signal = rw h refl; first = rw h refl; second = rw h refl }
+    record { signal = rw h refl; first = rw h refl; generation = rw h refl }
 
 pub look-spec : {M : Type 1} → statement M
 look-spec =
     tie.close
-    (tie.spec (λ c κs. search needs) (λ c. search needs) (λ c. search needs) (λ c κs. search needs) in-range in-range-2 (λ c. search needs) fits returns
+    (tie.spec (λ c κs. search needs) (λ c. search needs) (λ c. search needs) (λ c κs. search needs) in-range (λ c. search needs) in-range-2 (λ c. search needs) fits returns
     returns-2 returns-3)

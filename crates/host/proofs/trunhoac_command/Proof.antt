@@ -42,6 +42,7 @@ use Rattle.kernel.proofs.answer_to.Symbol as callee-def
 use Rattle.kernel.proofs.answer_to.Symbol.{name as #callee}
 use Rattle.kernel.proofs.answer_to.Met as callee-thm
 use Rattle.machine.specs.Machine.{answerTo}
+use Rattle.machine.specs.Numbers.{replyBytes}
 use Rattle.state.proofs.Kernel.{the-row as struct}
 use Rattle.state.specs.View.{Good, areas, stateOf, told}
 use Rattle.state.specs.declared.Kernel.{Kernel}
@@ -58,7 +59,7 @@ abbrev Byte : Slot 7
 Byte = plain (λ _. u8)
 
 abbrev Reply : Slot 7
-Reply = ArrayOf Byte (λ κs. tt) 24
+Reply = ArrayOf Byte (λ κs. tt) replyBytes
 
 -- what is passed on: two slices that are read, three that are written, and the reply
 abbrev Six : Type 0
@@ -123,7 +124,7 @@ module _ {M : Type 1} (𝓤 : URA M) (H : Heap 𝓤) (A : Atoms 𝓤) (W : Given
       ∷ MutSlice (named 2) (κs .1 .1 .0) u8
       ∷ MutSlice (named 3) (κs .1 .1 .1 .0) u8
       ∷ MutSlice (named 4) (κs .1 .1 .1 .1 .0) u8
-      ∷ MutRef (named 5) (κs .1 .1 .1 .1 .1 .0) (Array u8 24)
+      ∷ MutRef (named 5) (κs .1 .1 .1 .1 .1 .0) (Array u8 replyBytes)
       ∷ []) xs vals
 
   abbrev Alive : SProp 𝓤
@@ -149,7 +150,7 @@ module _ {M : Type 1} (𝓤 : URA M) (H : Heap 𝓤) (A : Atoms 𝓤) (W : Given
       ∷ ‵ (fbor κ (Body (mem struct) b o γ))
       ∷ ‵ (flft κ q)
       ∷ raw Alive
-      ∷ ‵ (fsep (fres (x₆ .name) (Array u8 24 .coded .code (ws .1 .1 .1 .1 .1 .1 .0))) ftrue)
+      ∷ ‵ (fsep (fres (x₆ .name) (Array u8 replyBytes .coded .code (ws .1 .1 .1 .1 .1 .1 .0))) ftrue)
       ∷ ‵ (finally u8 (x₅ .name) (ws .1 .1 .1 .1 .1 .0))
       ∷ ‵ (finally u8 (x₄ .name) (ws .1 .1 .1 .1 .0))
       ∷ ‵ (finally u8 (x₃ .name) (ws .1 .1 .1 .0))
@@ -229,7 +230,7 @@ module _ {M : Type 1} (𝓤 : URA M) (H : Heap 𝓤) (A : Atoms 𝓤) (W : Given
             shr-slice-tells (named 2) (κs .1 .1 .0) u8,
             (
               mut-slice-tells (named 3) (κs .1 .1 .1 .0) u8,
-              (mut-slice-tells (named 4) (κs .1 .1 .1 .1 .0) u8, (mut-slice-tells (named 5) (κs .1 .1 .1 .1 .1 .0) u8, (mut-tells (named 6) (κs .1 .1 .1 .1 .1 .1 .0) (Array u8 24), tt))),
+              (mut-slice-tells (named 4) (κs .1 .1 .1 .1 .0) u8, (mut-slice-tells (named 5) (κs .1 .1 .1 .1 .1 .0) u8, (mut-tells (named 6) (κs .1 .1 .1 .1 .1 .1 .0) (Array u8 replyBytes), tt))),
             ),
           ),
         ),

@@ -1,44 +1,29 @@
 use borrow.Author.Needs.{needs}
-use mathlib.Core.Bool.{Bool, true, false}
 use mathlib.Core.Logic.{⊎-elim}
 use mathlib.Core.Path.{_≡_, refl, sym, ap, _∙_}
 use Prim.Native.Nat.{ℕ, _-_, _≤_}
 use native.Mathlib.Omega.{arith}
 use lib.ListN.{take}
-use Rattle.bits.specs.Laws.{put-other}
-use Rattle.bits.specs.Members.{members, put}
-use Rattle.pool.specs.Inside.{cells, freedIf, marks, rowOf, Sized}
+use Rattle.bits.specs.Members.{members}
+use Rattle.pool.specs.Inside.{cells, freedIf, rowOf, Sized}
 use Rattle.pool.specs.Row.{blocks, goneTimes}
 use Rattle.pool.specs.View.{cells-length}
 use Rattle.pool.proofs.Each.{each-start, each-turn, each-end}
+use Rattle.pool.proofs.Store.{freed-now, freed-not, freed-other}
 use Rattle.pool.proofs.let_go_each.Statement.{statement}
 use Rattle.pool.proofs.let_go_each.Tie as tie
 
 -- The blocks below b are let go as often as the list says; from b on the same blocks are free as at the start.
 abbrev Inv-loop : tie.InvT-loop
-Inv-loop times q gens₀ counts₀ was free₀ b₀ gens counts free b =
+Inv-loop p times gens₀ counts₀ was free₀ b₀ gens counts free b =
     Sized gens counts
     × (rowOf gens counts (members free) ≡ goneTimes (rowOf gens₀ counts₀ (members was)) (take b times))
     × ((k : ℕ) → b ≤ k → members free k ≡ members was k)
 
 abbrev μ-loop : tie.MeasureT-loop
-μ-loop times q gens₀ counts₀ was free₀ b₀ gens counts free b = blocks - b
+μ-loop p times gens₀ counts₀ was free₀ b₀ gens counts free b = blocks - b
 
--- the set after a turn: with block b where that was freed, as it was at every other
-module _ (b : ℕ) (frees : ℕ → Bool) where
-  freed-now : {t : Bool} → t ≡ true → put b true frees ≡ freedIf t b frees
-  unfolding freedIf
-  freed-now e = rw e refl
-
-  freed-not : {t : Bool} → t ≡ false → frees ≡ freedIf t b frees
-  unfolding freedIf
-  freed-not e = rw e refl
-
-  freed-other : (t : Bool) (k : ℕ) → (k ≡ b → ⊥) → freedIf t b frees k ≡ frees k
-  unfolding freedIf
-  freed-other true k ne = put-other b true frees k ne
-  freed-other false k ne = refl
-
+-- the set after a turn
 set-after : (c : tie.Joined1 Inv-loop μ-loop) →
     let head = c .before .before .before .before .before .before .loop in
     members (c .if1 .free) ≡ freedIf (c .before .let-go-some .result) (head .b) (members (head .free))
@@ -58,14 +43,14 @@ loop-again c =
     )
 
 returns : tie.Need-returns Inv-loop μ-loop
-unfolding cells marks
+unfolding cells
 returns c =
-    let start = c .before .before .before .before .args .p in
-    let head = c .before .loop in
-    (head .inv .1 ∙ each-end (cells start) _ (head .b) (omega (arith, cells-length start)), refl)
+    let head = c .before .before .loop in
+    let start = c .before .before .before .before .before .args .p in
+    (c .with-parts .ensures .0 ∙ head .inv .1 ∙ each-end (cells start) _ (head .b) (omega (arith, cells-length start)), c .with-parts .ensures .1)
 
 pub let-go-each-spec : {M : Type 1} → statement M
 let-go-each-spec =
     tie.close
     (tie.spec Inv-loop μ-loop (λ c. (search needs, sym (each-start _), λ k h. refl)) (λ c. search needs) (λ c κs. search needs) (λ c κs. search needs)
-    (λ c. search needs) (λ c. search needs) loop-again returns)
+    (λ c. search needs) (λ c. search needs) loop-again (λ c κs. search needs) returns)

@@ -7,7 +7,7 @@ use Rattle.reply.proofs.made.Tie as tie
 
 returns : tie.Need-returns
 unfolding replyOf bytes padded
-returns c = refl
+returns c = rw (c .with-handle .ensures) refl
 
 pub made-spec : {M : Type 1} → statement M
-made-spec = tie.close (tie.spec (λ c. search needs) (λ c. search needs) (λ c. search needs) returns)
+made-spec = tie.close (tie.spec (λ c. search needs) (λ c. search needs) returns)

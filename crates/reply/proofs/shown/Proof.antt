@@ -1,5 +1,5 @@
 use borrow.Author.Needs.{needs}
-use mathlib.Core.List.{List, append-nil}
+use mathlib.Core.List.{List}
 use mathlib.Core.Path.{_≡_, refl}
 use native.Mathlib.Omega.{arith}
 use Prim.Native.Nat.{ℕ, min}
@@ -14,7 +14,7 @@ count-of l = omega (arith, length-take mostActions l)
 
 returns : tie.Need-returns
 unfolding replyOf bytes
-returns c = rw (append-nil, c .before .before .fill .ensures, c .least .ensures, count-of) refl
+returns c = rw (c .before .before .fill .ensures, c .least .ensures, count-of) refl
 
 pub shown-spec : {M : Type 1} → statement M
 shown-spec =
