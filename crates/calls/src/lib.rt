@@ -101,7 +101,7 @@ pub fn write_line(
     log: &[u8],
     part: &[u8],
 ) {
-    let replied = text::with_reply(text::empty(), &reply);
+    let replied = text::with_reply(text::empty(), reply);
     let with_payloads = with_named(replied, b" payloads ", sum_of(payloads));
     let with_tables = with_named(with_payloads, b" tables ", sum_of(tables));
     let with_areas = with_named(with_tables, b" log ", sum_of(log));

@@ -82,7 +82,7 @@ fn answer_command(
     let size = io::count(record.size as isize, &bytes);
     let answered = answer(k, &bytes[..size], &chart[..n], payloads, tables, log);
     let reply = answered.reply;
-    text::write(text::with_reply(line, &reply));
+    text::write(text::with_reply(line, reply));
     let next = answered.kernel;
     Run {
         kernel: next,

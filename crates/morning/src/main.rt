@@ -14,7 +14,6 @@ use frame::reader::DATA;
 use frame::reader::Fed;
 use frame::reader::Reader;
 use numbers::REPLY_BYTES;
-use numbers::command::NEW;
 use std::num::wrapping_add_u64;
 use text::Line;
 use text::with_bytes;
@@ -44,7 +43,7 @@ fn with_other_data(line: Line, data: &[u8]) -> Line {
 }
 
 // The data in words: `size` of the bytes that a reader holds.
-fn with_data(line: Line, command: u8, bytes: [u8; MOST_BYTES], size: usize) -> Line
+fn with_data(line: Line, bytes: [u8; MOST_BYTES], size: usize) -> Line
     requires { ⌜ size ≤ mostData ⌝ }
 {
     let end = DATA + size;
@@ -54,7 +53,7 @@ fn with_data(line: Line, command: u8, bytes: [u8; MOST_BYTES], size: usize) -> L
     }
     let mut reply = [0u8; REPLY_BYTES];
     ground::fill(&mut reply, data);
-    replies::in_words(line, command == NEW, reply)
+    replies::in_words(line, reply)
 }
 
 fn with_frame(line: Line, fed: Fed) -> Line
@@ -64,7 +63,7 @@ fn with_frame(line: Line, fed: Fed) -> Line
     let bytes = reader.bytes;
     let numbered = with_bytes(text::with_byte_right(line, fed.number), b" ");
     let named = with_bytes(names::with_name(numbered, fed.kind), b" ");
-    with_data(named, fed.kind, bytes, fed.size)
+    with_data(named, bytes, fed.size)
 }
 
 // Tells of a frame that was handed out, and before it whether frames are missing there.

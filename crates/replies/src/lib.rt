@@ -1,13 +1,15 @@
 // A reply of the kernel in words.
 //
 // First the answer's name, then as much of this as the reply has:
-//     object 9  transition  signal 6    the object, the outcome, and the signal (START has none)
-//     event 32 1                        NEXT: the event's block and generation; or the number of the timer
-//     values 5 0                        any other command that was done: its two values
+//     object 9  transition  signal 6    START and NEXT: the object, the outcome, and the signal (START has none)
+//     event 32 1                        NEXT and NEW: the event's block and generation; or `timer` and its number
 //     least free 3                      NEW: the least number of free blocks that its pool has had
+//     values 5 0                        any other command that was done: its two values
 //     class 2                           CHART: the class of the fault
 //     count 4  actions 26 22 31 41      the count and the actions; for READ bytes of the payload
-// What is no answer of the kernel, a number above 15, is told as such.
+// What the kernel never writes is told too: `unknown answer 16`, a number above 15; `handle 1 2`, where no event is told.
+use numbers::GENERATION;
+use numbers::HANDLE;
 use numbers::REPLY_BYTES;
 use numbers::answer;
 use text::Line;
@@ -16,6 +18,15 @@ use text::with_bytes;
 
 // An event that came from timer t has the block number 128 + t.
 const FIRST_TIMER: u8 = 128;
+
+// Where the actions begin, or the bytes of a payload.
+const COUNTED: usize = 6;
+
+// The last bytes of a reply: the first of them, and the three of the generation as a number.
+struct Handle {
+    block: u8,
+    generation: u64,
+}
 
 fn with_item(line: Line, name: &[u8], number: u8) -> Line {
     text::with_named(line, name, wide(number))
@@ -59,20 +70,37 @@ fn with_outcome(line: Line, outcome: u8) -> Line {
     }
 }
 
-// What START and NEXT tell of the object.
-fn with_step(line: Line, object: u8, outcome: u8, signal: u8) -> Line {
-    let moved = with_outcome(with_item(line, b"  object ", object), outcome);
-    if signal == 0 {
-        return moved;
+fn handle_of(reply: [u8; REPLY_BYTES]) -> Handle {
+    let low = wide(reply[GENERATION]);
+    let middle = wide(reply[GENERATION + 1]);
+    let high = wide(reply[GENERATION + 2]);
+    Handle {
+        block: reply[HANDLE],
+        generation: low + 256 * middle + 65536 * high,
     }
-    with_item(moved, b"  signal ", signal)
 }
 
-fn with_event(line: Line, block: u8, generation: u8) -> Line {
-    if FIRST_TIMER <= block {
-        return with_item(line, b"  timer ", block - FIRST_TIMER);
+fn is_zero(handle: Handle) -> bool {
+    handle.block == 0 && handle.generation == 0
+}
+
+fn with_block(line: Line, name: &[u8], handle: Handle) -> Line {
+    text::with_named(with_item(line, name, handle.block), b" ", handle.generation)
+}
+
+fn with_event(line: Line, event: Handle) -> Line {
+    if FIRST_TIMER <= event.block {
+        return with_item(line, b"  timer ", event.block - FIRST_TIMER);
     }
-    with_item(with_item(line, b"  event ", block), b" ", generation)
+    with_block(line, b"  event ", event)
+}
+
+// A handle that is no event's.
+fn with_handle(line: Line, handle: Handle) -> Line {
+    if is_zero(handle) {
+        return line;
+    }
+    with_block(line, b"  handle ", handle)
 }
 
 fn with_values(line: Line, number: u8, first: u8, second: u8) -> Line {
@@ -97,27 +125,38 @@ fn with_counted(line: Line, count: u8, name: &[u8], counted: &[u8]) -> Line {
     )
 }
 
-// The line with a reply. Whether NEW is what it answers has to be said, since a reply does not.
-pub fn in_words(line: Line, to_new: bool, reply: [u8; REPLY_BYTES]) -> Line {
-    let answered = with_answer(line, reply[0]);
-    let object = reply[1];
-    let step = reply[2];
-    if object == 0 && step == 0 {
-        let told = with_values(answered, reply[0], reply[4], reply[5]);
-        if to_new && reply[0] == answer::DONE {
-            return with_item(told, b"  least free ", reply[3]);
-        }
-        return with_counted(told, reply[3], b"  bytes", &reply[6..]);
-    }
-    let signal = step % 32;
-    let told = with_step(answered, object, step / 32, signal);
+// What START and NEXT tell. START has no signal, and so no event.
+fn with_step(line: Line, reply: [u8; REPLY_BYTES]) -> Line {
+    let handle = handle_of(reply);
+    let count = reply[3];
+    let signal = reply[2] % 32;
+    let moved = with_outcome(with_item(line, b"  object ", reply[1]), reply[2] / 32);
+    let actions = &reply[COUNTED..HANDLE];
     if signal == 0 {
-        return with_counted(told, reply[3], b"  actions", &reply[6..]);
+        return with_handle(with_counted(moved, count, b"  actions", actions), handle);
     }
-    with_counted(
-        with_event(told, reply[4], reply[5]),
-        reply[3],
-        b"  actions",
-        &reply[6..],
-    )
+    let told = with_event(with_item(moved, b"  signal ", signal), handle);
+    with_counted(told, count, b"  actions", actions)
+}
+
+// Whether a reply that is done answers NEW: it alone has no values and yet a count, its pool's mark, or a handle. READ's count
+// comes with the payload's size for a value, and the event of zeros, the first of a fresh pool, with a mark.
+fn is_to_new(count: u8, first: u8, second: u8, handle: Handle) -> bool {
+    first == 0 && second == 0 && (count != 0 || !is_zero(handle))
+}
+
+// The line with a reply.
+pub fn in_words(line: Line, reply: [u8; REPLY_BYTES]) -> Line {
+    let answered = with_answer(line, reply[0]);
+    if reply[1] != 0 || reply[2] != 0 {
+        return with_step(answered, reply);
+    }
+    let handle = handle_of(reply);
+    let count = reply[3];
+    if reply[0] == answer::DONE && is_to_new(count, reply[4], reply[5], handle) {
+        return with_item(with_event(answered, handle), b"  least free ", count);
+    }
+    let told = with_values(answered, reply[0], reply[4], reply[5]);
+    let bytes = &reply[COUNTED..HANDLE];
+    with_handle(with_counted(told, count, b"  bytes", bytes), handle)
 }

@@ -1,6 +1,8 @@
 // A line of text, put together piece by piece and written by one call.
 ghost use Prim.Native.Nat.{_≤_};
 ghost use Rattle.io.specs.Counts.{Counts};
+use numbers::HANDLE;
+use numbers::REPLY_BYTES;
 
 // As many as a byte can count: so the next byte of a line always has its place, and no contract has to say so.
 const LINE_BYTES: usize = 256;
@@ -93,21 +95,35 @@ pub fn with_list(line: Line, bytes: &[u8]) -> Line {
     longer
 }
 
-// How many bytes there are without the zeros at the end; the first is always told.
-fn told(bytes: &[u8]) -> usize
+// How many bytes there are without the zeros at the end, but for the first so many, which are told in any case.
+fn told(bytes: &[u8], first: usize) -> usize
     ensures { λ r. ⌜ Counts r (now (bytes .entry)) ⌝ }
 {
     let mut n = bytes.len();
-    while 1 < n && bytes[n - 1] == 0 {
+    while first < n && bytes[n - 1] == 0 {
         n -= 1;
     }
     n
 }
 
-// The bytes of a reply but for the zeros at its end, each after a space.
-pub fn with_reply(line: Line, reply: &[u8]) -> Line {
-    let n = told(reply);
-    with_list(line, &reply[..n])
+// The bytes of a reply before its handle but for the zeros at their end, each after a space.
+fn with_front(line: Line, front: &[u8]) -> Line {
+    let n = told(front, 1);
+    with_list(line, &front[..n])
+}
+
+// The bytes of a handle but for the zeros at its end, behind a sign of their own. A handle of zeros is not told.
+fn with_handle(line: Line, handle: &[u8]) -> Line {
+    let n = told(handle, 0);
+    if n == 0 {
+        return line;
+    }
+    with_list(with_bytes(line, b" @"), &handle[..n])
+}
+
+// The bytes of a reply: `0 0 0 15 @ 32 1`.
+pub fn with_reply(line: Line, reply: [u8; REPLY_BYTES]) -> Line {
+    with_handle(with_front(line, &reply[0..HANDLE]), &reply[HANDLE..])
 }
 
 // The sum of each byte times its place, counted from 1, modulo 2 to the 32: a number by which a line tells an area.

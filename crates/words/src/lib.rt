@@ -2,8 +2,9 @@
 //
 // A line is a name and numbers, with spaces between them; what stands behind `#` or `=` is left out.
 // The name gives the record's first byte, and each number is the next byte:
-//     LOAD 0 · START 9 0 1 · POST 0 0 9 2     a command record of 72 bytes; the bytes that are not given are 0
+//     LOAD 0 · START 9 0 1                    a command record of 72 bytes; the bytes that are not given are 0
 //     NEW 6 3 7 8 9                           signal, size; then the payload's bytes
+//     READ 1 70000 · POST 0 16777215 9 2      a handle: block; then the generation, three bytes
 //     ARM 0 9 6 500 0                         timer, object, signal; then ticks and interval, two bytes each
 //     TOP 1 10 · STATE 0 11 12 2 13 · ROW 1 5 1 1 15     the records of a chart, of 8 bytes
 //     22 1 2                                  a number for a name: a command record of just these bytes, then 0
@@ -20,11 +21,15 @@ const COMMAND_RECORD: u8 = 72;
 
 const CHART_RECORD: u8 = 8;
 
-// Where the payload of a command record begins.
+// Where in a command record NEW's payload begins, the generation of a handle, and ARM's ticks.
 const PAYLOAD: usize = 8;
 
-// The number above all that are written.
-const TOO_LARGE: u32 = 65536;
+const GENERATION: usize = 2;
+
+const TICKS: usize = 4;
+
+// The number above all that are written, of which the largest are generations.
+const TOO_LARGE: u32 = 1 << 24;
 
 // What is no command has a number from 200 on here, so that more commands may come below.
 const TOP: u8 = 200;
@@ -188,7 +193,9 @@ fn begin(word: Word) -> Record {
     }
 }
 
-fn with_byte(record: Record, at: usize, byte: u8) -> Record {
+// The record with its next byte.
+fn with_byte(record: Record, byte: u8) -> Record {
+    let at = record.at;
     if RECORD_BYTES <= at {
         return wrong(record);
     }
@@ -203,29 +210,47 @@ fn with_byte(record: Record, at: usize, byte: u8) -> Record {
     longer
 }
 
-// Low byte first.
-fn with_two_bytes(record: Record, at: usize, number: u32) -> Record {
-    if TOO_LARGE <= number {
-        return wrong(record);
+// The record with a number next, in so many bytes, low byte first. A number that does not fit makes it wrong.
+fn with_bytes(record: Record, width: usize, number: u32) -> Record {
+    let mut longer = record;
+    let mut left = width;
+    let mut rest = number;
+    while 0 < left {
+        longer = with_byte(longer, (rest % 256) as u8);
+        left -= 1;
+        rest /= 256;
     }
-    let low = with_byte(record, at, (number % 256) as u8);
-    with_byte(low, low.at, (number / 256) as u8)
+    if rest == 0 { longer } else { wrong(longer) }
 }
 
-// Puts the next number to its place. Only ARM's last two take two bytes.
+// Whether a command names an event by its handle.
+fn has_handle(name: u8) -> bool {
+    match name {
+        command::POST | command::POSTFRONT | command::PUBLISH | command::READ => true,
+        command::HOLD | command::RELEASE | command::DROP => true,
+        _ => false,
+    }
+}
+
+// How many bytes the number at a place of a record takes.
+fn width_at(name: u8, at: usize) -> usize {
+    if at == GENERATION && has_handle(name) {
+        return 3;
+    }
+    if TICKS <= at && name == command::ARM {
+        return 2;
+    }
+    1
+}
+
+// Puts the next number to its place.
 fn with_number(record: Record, number: u32) -> Record {
     let at = if record.name == command::NEW && record.at == 3 {
         PAYLOAD
     } else {
         record.at
     };
-    if record.name == command::ARM && 4 <= at {
-        return with_two_bytes(record, at, number);
-    }
-    if 255 < number {
-        return wrong(record);
-    }
-    with_byte(record, at, number as u8)
+    with_bytes(Record { at, ..record }, width_at(record.name, at), number)
 }
 
 // Whether no word was read yet; of a whole line, whether it has no record.

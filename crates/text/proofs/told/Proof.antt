@@ -7,10 +7,10 @@ use Rattle.text.proofs.told.Statement.{statement}
 use Rattle.text.proofs.told.Tie as tie
 
 abbrev Inv-loop : tie.InvT-loop
-Inv-loop bytes n₀ n = n ≤ length bytes
+Inv-loop bytes first n₀ n = n ≤ length bytes
 
 abbrev μ-loop : tie.MeasureT-loop
-μ-loop bytes n₀ n = n
+μ-loop bytes first n₀ n = n
 
 pub told-spec : {M : Type 1} → statement M
 told-spec =
