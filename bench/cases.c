@@ -1,6 +1,14 @@
 #include "cases.h"
 
-enum { COUNT = TRUNHOAC_AT_COUNT, VALUES = TRUNHOAC_AT_VALUES, PAYLOAD = TRUNHOAC_HEAD_BYTES };
+enum {
+    COUNT = TRUNHOAC_AT_COUNT,
+    VALUES = TRUNHOAC_AT_VALUES,
+    EVENT = TRUNHOAC_AT_HANDLE,
+    PAYLOAD = TRUNHOAC_HEAD_BYTES
+};
+
+/* The handle of a block that was never freed. */
+#define HANDLE(block) block, 0, 0, 0
 
 /* The replies are written by hand from the documents: DONE is 0, and so are the bytes that are not named. */
 const struct bench_case cases[] = {
@@ -19,26 +27,28 @@ const struct bench_case cases[] = {
      .record = {TRUNHOAC_START, 9, 0, 16}, .expected = {.reply = {0, 9, 64, 4, 0, 0, 10, 11, 13, 21}}},
 
     {.name = "NEW, 0 bytes", .call = COMMAND, .prepare = all_started,
-     .record = {TRUNHOAC_NEW, MOVES, 0}, .expected = {.reply = {[COUNT] = 31, 0, 0}}},
+     .record = {TRUNHOAC_NEW, MOVES, 0}, .expected = {.reply = {[COUNT] = 31, [EVENT] = HANDLE(0)}}},
     {.name = "NEW, 16 bytes", .call = COMMAND, .prepare = all_started,
-     .record = {TRUNHOAC_NEW, MOVES, 16, [PAYLOAD] = SIXTEEN_BYTES}, .expected = {.reply = {[COUNT] = 31, 0, 0}}},
+     .record = {TRUNHOAC_NEW, MOVES, 16, [PAYLOAD] = SIXTEEN_BYTES},
+     .expected = {.reply = {[COUNT] = 31, [EVENT] = HANDLE(0)}}},
     {.name = "NEW, 64 bytes", .call = COMMAND, .prepare = all_started,
      .record = {TRUNHOAC_NEW, MOVES, 64, [PAYLOAD] = SIXTEEN_BYTES, SIXTEEN_BYTES, SIXTEEN_BYTES, SIXTEEN_BYTES},
-     .expected = {.reply = {[COUNT] = 7, 48, 0}}},
+     .expected = {.reply = {[COUNT] = 7, [EVENT] = HANDLE(48)}}},
     {.name = "NEW, 16 bytes, 31 other blocks taken", .call = COMMAND, .prepare = one_block_of_16_left,
-     .record = {TRUNHOAC_NEW, MOVES, 16, [PAYLOAD] = SIXTEEN_BYTES}, .expected = {.reply = {[COUNT] = 0, 31, 0}}},
+     .record = {TRUNHOAC_NEW, MOVES, 16, [PAYLOAD] = SIXTEEN_BYTES},
+     .expected = {.reply = {[COUNT] = 0, [EVENT] = HANDLE(31)}}},
 
     {.name = "POST", .call = COMMAND, .prepare = event_at_nine,
-     .record = {TRUNHOAC_POST, 0, 0, 9, 0}, .expected = {.reply = {[VALUES] = 2}}},
+     .record = {TRUNHOAC_POST, HANDLE(0), 9, 0}, .expected = {.reply = {[VALUES] = 2}}},
     {.name = "POSTFRONT", .call = COMMAND, .prepare = event_at_nine,
-     .record = {TRUNHOAC_POSTFRONT, 0, 0, 9}, .expected = {.reply = {[VALUES] = 2}}},
+     .record = {TRUNHOAC_POSTFRONT, HANDLE(0), 9}, .expected = {.reply = {[VALUES] = 2}}},
 
     {.name = "PUBLISH to none", .call = COMMAND, .prepare = event_made,
-     .record = {TRUNHOAC_PUBLISH, 0, 0}, .expected = {.reply = {[VALUES] = 0, 1}}},
+     .record = {TRUNHOAC_PUBLISH, HANDLE(0)}, .expected = {.reply = {[VALUES] = 0, 1}}},
     {.name = "PUBLISH to 1", .call = COMMAND, .prepare = event_and_one_subscriber,
-     .record = {TRUNHOAC_PUBLISH, 0, 0}, .expected = {.reply = {[VALUES] = 1, 0}}},
+     .record = {TRUNHOAC_PUBLISH, HANDLE(0)}, .expected = {.reply = {[VALUES] = 1, 0}}},
     {.name = "PUBLISH to 16", .call = COMMAND, .prepare = event_and_sixteen_subscribers,
-     .record = {TRUNHOAC_PUBLISH, 0, 0}, .expected = {.reply = {[VALUES] = 16, 0}}},
+     .record = {TRUNHOAC_PUBLISH, HANDLE(0)}, .expected = {.reply = {[VALUES] = 16, 0}}},
 
     {.name = "SUBSCRIBE", .call = COMMAND, .prepare = all_started,
      .record = {TRUNHOAC_SUBSCRIBE, 9, MOVES}, .expected = {.reply = {[VALUES] = 1}}},
@@ -46,21 +56,21 @@ const struct bench_case cases[] = {
      .record = {TRUNHOAC_UNSUBSCRIBE, 9, MOVES}, .expected = {.reply = {[VALUES] = 1}}},
 
     {.name = "HOLD", .call = COMMAND, .prepare = event_made,
-     .record = {TRUNHOAC_HOLD, 0, 0}, .expected = {.reply = {[VALUES] = 1}}},
+     .record = {TRUNHOAC_HOLD, HANDLE(0)}, .expected = {.reply = {[VALUES] = 1}}},
     {.name = "RELEASE, not freeing", .call = COMMAND, .prepare = event_held_twice,
-     .record = {TRUNHOAC_RELEASE, 0, 0}, .expected = {.reply = {[VALUES] = 1, 0}}},
+     .record = {TRUNHOAC_RELEASE, HANDLE(0)}, .expected = {.reply = {[VALUES] = 1, 0}}},
     {.name = "RELEASE, freeing", .call = COMMAND, .prepare = event_held_once,
-     .record = {TRUNHOAC_RELEASE, 0, 0}, .expected = {.reply = {[VALUES] = 0, 1}}},
+     .record = {TRUNHOAC_RELEASE, HANDLE(0)}, .expected = {.reply = {[VALUES] = 0, 1}}},
     {.name = "DROP", .call = COMMAND, .prepare = event_made,
-     .record = {TRUNHOAC_DROP, 0, 0}, .expected = {.reply = {0}}},
+     .record = {TRUNHOAC_DROP, HANDLE(0)}, .expected = {.reply = {0}}},
     {.name = "DROP, 31 other blocks taken", .call = COMMAND, .prepare = no_block_of_16_left,
-     .record = {TRUNHOAC_DROP, 31, 0}, .expected = {.reply = {0}}},
+     .record = {TRUNHOAC_DROP, HANDLE(31)}, .expected = {.reply = {0}}},
 
     /* Outcome 2 and signal 6 are 70; the four actions are the paper's "2 by 6". */
     {.name = "NEXT, mail at object 16", .call = COMMAND, .prepare = event_at_sixteen,
-     .record = {TRUNHOAC_NEXT}, .expected = {.reply = {0, 16, 70, 4, 0, 0, 26, 22, 31, 41}}},
+     .record = {TRUNHOAC_NEXT}, .expected = {.reply = {0, 16, 70, 4, 0, 0, 26, 22, 31, 41, [EVENT] = HANDLE(0)}}},
     {.name = "NEXT, mail at object 1 only", .call = COMMAND, .prepare = event_at_one,
-     .record = {TRUNHOAC_NEXT}, .expected = {.reply = {0, 1, 70, 4, 0, 0, 26, 22, 31, 41}}},
+     .record = {TRUNHOAC_NEXT}, .expected = {.reply = {0, 1, 70, 4, 0, 0, 26, 22, 31, 41, [EVENT] = HANDLE(0)}}},
 
     {.name = "END, freeing", .call = COMMAND, .prepare = event_in_hand,
      .record = {TRUNHOAC_END}, .expected = {.reply = {[VALUES] = 1}}},
@@ -80,11 +90,11 @@ const struct bench_case cases[] = {
      .record = {TRUNHOAC_TICK}, .expected = {.reply = {[VALUES] = 16, 0}}},
 
     {.name = "READ, 0 bytes", .call = COMMAND, .prepare = event_without_bytes,
-     .record = {TRUNHOAC_READ, 0, 0}, .expected = {.reply = {[COUNT] = 0, 0}}},
+     .record = {TRUNHOAC_READ, HANDLE(0)}, .expected = {.reply = {[COUNT] = 0, 0}}},
     {.name = "READ, 64 bytes", .call = COMMAND, .prepare = event_of_64_bytes,
-     .record = {TRUNHOAC_READ, 48, 0}, .expected = {.reply = {[COUNT] = 18, 64, 0, SIXTEEN_BYTES, 1, 2}}},
+     .record = {TRUNHOAC_READ, HANDLE(48)}, .expected = {.reply = {[COUNT] = 18, 64, 0, SIXTEEN_BYTES, 1, 2}}},
     {.name = "trunhoac_read, 64 bytes", .call = READ_PART, .prepare = event_of_64_bytes,
-     .record = {TRUNHOAC_READ, 48, 0}, .expected = {.part = {1024, 64}}},
+     .record = {TRUNHOAC_READ, HANDLE(48)}, .expected = {.part = {1024, 64}}},
 
     {.name = "DRAIN, nothing queued", .call = COMMAND, .prepare = all_started,
      .record = {TRUNHOAC_DRAIN, 255}, .expected = {.reply = {[VALUES] = 0, 1}}},

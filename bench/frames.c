@@ -92,7 +92,7 @@ static const struct bench_case {
     bool (*is_done)(const struct stream *stream);
 } cases[] = {
     {"copy of the stream", &replies, do_copy, 0, is_written},
-    {"write, 24 bytes of data", &replies, do_write, MOST_SENT, is_written},
+    {"write, 28 bytes of data", &replies, do_write, MOST_SENT, is_written},
     {"read, pieces of 4,096 bytes", &replies, do_read, 4096, are_told},
     {"read, pieces of 4 bytes", &replies, do_read, 4, are_told},
     {"read, byte by byte", &replies, do_read, 1, are_told},
@@ -138,7 +138,7 @@ static void write_stream(struct stream *stream)
 static void prepare_all(void)
 {
     for (size_t i = 0; i < FRAMES; i++) {
-        const uint8_t reply[DATA] = {0, 9, 70, 4, (uint8_t)(i % 56), 0, 26, 22, 31, 41};
+        const uint8_t reply[DATA] = {0, 9, 70, 4, 0, 0, 26, 22, 31, 41, [TRUNHOAC_AT_HANDLE] = (uint8_t)(i % 56)};
         memcpy(replies.data[i], reply, DATA);
         memset(escapes.data[i], 0x7E, DATA);
     }

@@ -6,7 +6,14 @@ enum {
     FIRST_OF_64 = 48,
     FIRST_KNOWN = 5, /* signals: both charts know seven from here on */
     KNOWN = 7,
-    APART = 17 /* has no divisor in common with EVENTS: entries so far apart come to each event */
+    APART = 17, /* has no divisor in common with EVENTS: entries so far apart come to each event */
+    LIVES = 9   /* block b had so many events, times b, before: the last generations take two bytes */
+};
+
+/* An event as the kernel knows it, and all of it as the ordinary program does. */
+struct event {
+    struct trunhoac_handle handle;
+    struct ordinary_event copy;
 };
 
 /* So many bytes that the event takes block b, and a signal that another is next to. */
@@ -22,12 +29,22 @@ static struct ordinary_event event_for(size_t b)
     return event;
 }
 
-static void make_events(struct state *state, struct ordinary_event events[EVENTS])
+static struct trunhoac_handle make_event(struct state *state, const struct ordinary_event *event)
+{
+    return prepare_new(state, event->signal, event->payload, event->size);
+}
+
+/* No two have the same generation, so that the logs show whose it is. */
+static void make_events(struct state *state, struct event events[EVENTS])
 {
     for (size_t b = 0; b < EVENTS; b++) {
-        struct ordinary_event *event = &events[b];
-        *event = event_for(b);
-        event->handle = prepare_new(state, event->signal, event->payload, event->size);
+        struct event *event = &events[b];
+        event->copy = event_for(b);
+        for (size_t life = 0; life < LIVES * b; life++)
+            prepare_drop(state, make_event(state, &event->copy));
+        event->handle = make_event(state, &event->copy);
+        event->copy.block = event->handle.block;
+        event->copy.generation = trunhoac_generation_of(event->handle);
     }
 }
 
@@ -40,15 +57,15 @@ static void start_all(struct full *full)
     }
 }
 
-static void post_to_both(struct full *full, const struct ordinary_event *event, uint8_t p)
+static void post_to_both(struct full *full, const struct event *event, uint8_t p)
 {
     prepare_post(&full->state, event->handle, p);
-    ordinary_post(full->ordinary, p, event);
+    ordinary_post(full->ordinary, p, &event->copy);
 }
 
 void fill_both(struct full *full, const struct chart charts[CHARTS], size_t boxes)
 {
-    struct ordinary_event events[EVENTS];
+    struct event events[EVENTS];
 
     prepare_fresh(&full->state);
     full->ordinary = ordinary_new();

@@ -8,7 +8,8 @@ struct ordinary;
 
 /* All bytes of an event, which are copied wherever it goes. */
 struct ordinary_event {
-    struct trunhoac_handle handle;
+    uint32_t generation;
+    uint8_t block;
     uint8_t signal;
     uint8_t size;
     uint8_t payload[TRUNHOAC_MOST_PAYLOAD_BYTES];

@@ -3,7 +3,7 @@
 use std::collections::VecDeque;
 
 const ROW_BYTES: usize = 24;
-const LINE_BYTES: usize = 24;
+const LINE_BYTES: usize = 28;
 const SLOT_BYTES: usize = 16152;
 const TABLE_BYTES: usize = 4 * SLOT_BYTES;
 const LOG_BYTES: usize = 255 * LINE_BYTES;
@@ -17,7 +17,8 @@ const DEPTH: usize = 16;
 #[derive(Clone, Copy)]
 #[repr(C)]
 pub struct Event {
-    pub handle: [u8; 2],
+    pub generation: u32,
+    pub block: u8,
     pub signal: u8,
     pub size: u8,
     pub payload: [u8; 64],
@@ -61,12 +62,14 @@ fn is_sound(row: &[u8]) -> bool {
 }
 
 fn write_line(line: &mut [u8], priority: usize, event: &Event, row: &[u8]) {
+    let handle = event.generation << 8 | event.block as u32; // the block's byte comes first
     line[0] = 0;
     line[1] = priority as u8;
     line[2] = row[1] * 32 + event.signal;
     line[3] = row[2];
-    line[4..6].copy_from_slice(&event.handle);
-    line[6..].copy_from_slice(&row[3..3 + MOST_ACTIONS]);
+    line[4..6].fill(0);
+    line[6..24].copy_from_slice(&row[3..3 + MOST_ACTIONS]);
+    line[24..].copy_from_slice(&handle.to_le_bytes());
 }
 
 /// Objects by their priority, which begins with 1.

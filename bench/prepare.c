@@ -55,3 +55,9 @@ void prepare_post(struct state *state, struct trunhoac_handle event, uint8_t p)
     uint8_t record[TRUNHOAC_RECORD_BYTES];
     prepare(state, trunhoac_fill_post(record, event, p, 0));
 }
+
+void prepare_drop(struct state *state, struct trunhoac_handle event)
+{
+    uint8_t record[TRUNHOAC_RECORD_BYTES];
+    prepare(state, trunhoac_fill_drop(record, event));
+}

@@ -29,5 +29,6 @@ void prepare_start(struct state *state, uint8_t p, uint8_t slot);
 
 struct trunhoac_handle prepare_new(struct state *state, uint8_t signal, const uint8_t *payload, uint8_t size);
 void prepare_post(struct state *state, struct trunhoac_handle event, uint8_t p);
+void prepare_drop(struct state *state, struct trunhoac_handle event);
 
 #endif

@@ -7,7 +7,7 @@ static const uint8_t payload[TRUNHOAC_MOST_PAYLOAD_BYTES] = {
 };
 
 /* Whatever is posted, held or published is the first event made, of 16 bytes. */
-static const struct trunhoac_handle event = {0, 0};
+static const struct trunhoac_handle event = {0};
 
 static void make(struct state *state, uint8_t signal, uint8_t size)
 {

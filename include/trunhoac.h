@@ -32,17 +32,17 @@ extern "C" {
 
 /* The kernel's memory, of this size and alignment. What it holds is the kernel's own. */
 struct trunhoac_kernel {
-    uint64_t memory[229];
+    uint64_t memory[250];
 };
 
 /* The lengths of a record, of a reply and of the three areas that the host lends. */
 enum {
     TRUNHOAC_HEAD_BYTES = 8, /* of a record: the command and its arguments; the payload follows */
     TRUNHOAC_RECORD_BYTES = 72,
-    TRUNHOAC_REPLY_BYTES = 24,
+    TRUNHOAC_REPLY_BYTES = 28,
     TRUNHOAC_PAYLOAD_AREA = 1536,
     TRUNHOAC_TABLE_AREA = 64608,
-    TRUNHOAC_LOG_AREA = 6120
+    TRUNHOAC_LOG_AREA = 7140
 };
 
 /* The most bytes that a chart and a payload have, and the length of a slot, which takes the flat table of one chart. */
@@ -57,12 +57,13 @@ enum {
     TRUNHOAC_OBJECTS = 16,
     TRUNHOAC_MOST_DEPTH = 16,
     TRUNHOAC_TIMERS = 16,
-    TRUNHOAC_FIRST_TIMER = 128, /* how the value of a NEXT tells timer 0 */
+    TRUNHOAC_FIRST_TIMER = 128, /* how a NEXT tells timer 0, in the place of a block */
     TRUNHOAC_SLOTS = 4,
     TRUNHOAC_SIDE_QUEUES = 8,
     TRUNHOAC_MOST_ASIDE = 8, /* entries of one side queue */
     TRUNHOAC_FIRST_SIGNAL = 4,
-    TRUNHOAC_LAST_SIGNAL = 31
+    TRUNHOAC_LAST_SIGNAL = 31,
+    TRUNHOAC_LAST_GENERATION = 16777215 /* of a block, from 0 on: one that is freed at it is retired */
 };
 
 /* The commands. */
@@ -121,7 +122,8 @@ enum {
     TRUNHOAC_AT_OUTCOME = 2, /* outcome * 32 + signal: trunhoac_outcome, trunhoac_signal */
     TRUNHOAC_AT_COUNT = 3, /* of NEW: its pool's mark, trunhoac_least_free_in */
     TRUNHOAC_AT_VALUES = 4,
-    TRUNHOAC_AT_ACTIONS = 6
+    TRUNHOAC_AT_ACTIONS = 6,
+    TRUNHOAC_AT_HANDLE = 24 /* of NEW and NEXT, otherwise zeros: trunhoac_handle_in, trunhoac_timer_in */
 };
 
 /* Makes a fresh kernel, whatever the memory held. */
@@ -233,23 +235,40 @@ void trunhoac_reader_feed(struct trunhoac_reader *reader,
                           const uint8_t *piece, size_t piece_length,
                           size_t *read, struct trunhoac_frame *frame);
 
-/* A handle: an event's block and its generation, which NEW answers and NEXT too where the event is no timer's. */
+/*
+ * A handle, as its four bytes stand in records and replies: an event's block,
+ * and how often that block was freed before. NEW answers it, and NEXT too where
+ * the event is no timer's.
+ *
+ * It goes stale when its event is freed, and every command that names it is
+ * then refused for ever: no event of the kernel gets the same handle again. For
+ * that a block which is freed at the last generation is retired. The answer
+ * says freed as for any block, but the block is never handed out again, and
+ * counts as taken when its pool runs dry and in its mark.
+ */
 struct trunhoac_handle {
     uint8_t block;
-    uint8_t generation;
+    uint8_t generation[3]; /* low byte first: trunhoac_generation_of */
 };
+
+static inline uint32_t trunhoac_generation_of(struct trunhoac_handle event)
+{
+    return event.generation[0] | (uint32_t)event.generation[1] << 8 | (uint32_t)event.generation[2] << 16;
+}
 
 /* ---- What a reply says ---- */
 
 static inline struct trunhoac_handle trunhoac_handle_in(const uint8_t *reply)
 {
-    struct trunhoac_handle handle = {reply[TRUNHOAC_AT_VALUES], reply[TRUNHOAC_AT_VALUES + 1]};
+    const uint8_t *bytes = reply + TRUNHOAC_AT_HANDLE;
+    struct trunhoac_handle handle = {bytes[0], {bytes[1], bytes[2], bytes[3]}};
     return handle;
 }
 
 /*
  * Of NEW: its pool's mark. That is the least number of free blocks that the
- * pool has had since the fresh start, the block just taken counted as taken.
+ * pool has had since the fresh start; the block just taken counts as taken, and
+ * so do those that are retired.
  */
 static inline uint8_t trunhoac_least_free_in(const uint8_t *reply)
 {
@@ -259,8 +278,8 @@ static inline uint8_t trunhoac_least_free_in(const uint8_t *reply)
 /* Of NEXT: the timer whose event it is, or -1 where the event has a handle. */
 static inline int trunhoac_timer_in(const uint8_t *reply)
 {
-    int value = reply[TRUNHOAC_AT_VALUES];
-    return value < TRUNHOAC_FIRST_TIMER ? -1 : value - TRUNHOAC_FIRST_TIMER;
+    int block = reply[TRUNHOAC_AT_HANDLE];
+    return block < TRUNHOAC_FIRST_TIMER ? -1 : block - TRUNHOAC_FIRST_TIMER;
 }
 
 /* 0 ignored, 1 internal, 2 a transition. */
@@ -288,6 +307,16 @@ static inline const uint8_t *trunhoac_fill(uint8_t *record, uint8_t command,
     return record;
 }
 
+/* For the commands that name an event: its handle, and what stands behind that. */
+static inline const uint8_t *trunhoac_fill_event(uint8_t *record, uint8_t command, struct trunhoac_handle event,
+                                                 uint8_t p, uint8_t margin)
+{
+    trunhoac_fill(record, command, event.block, event.generation[0], event.generation[1], event.generation[2]);
+    record[5] = p;
+    record[6] = margin;
+    return record;
+}
+
 static inline const uint8_t *trunhoac_fill_load(uint8_t *record, uint8_t slot)
 {
     return trunhoac_fill(record, TRUNHOAC_LOAD, slot, 0, 0, 0);
@@ -310,17 +339,17 @@ static inline const uint8_t *trunhoac_fill_new(uint8_t *record, uint8_t signal, 
 static inline const uint8_t *trunhoac_fill_post(uint8_t *record, struct trunhoac_handle event,
                                                 uint8_t p, uint8_t margin)
 {
-    return trunhoac_fill(record, TRUNHOAC_POST, event.block, event.generation, p, margin);
+    return trunhoac_fill_event(record, TRUNHOAC_POST, event, p, margin);
 }
 
 static inline const uint8_t *trunhoac_fill_postfront(uint8_t *record, struct trunhoac_handle event, uint8_t p)
 {
-    return trunhoac_fill(record, TRUNHOAC_POSTFRONT, event.block, event.generation, p, 0);
+    return trunhoac_fill_event(record, TRUNHOAC_POSTFRONT, event, p, 0);
 }
 
 static inline const uint8_t *trunhoac_fill_publish(uint8_t *record, struct trunhoac_handle event)
 {
-    return trunhoac_fill(record, TRUNHOAC_PUBLISH, event.block, event.generation, 0, 0);
+    return trunhoac_fill_event(record, TRUNHOAC_PUBLISH, event, 0, 0);
 }
 
 static inline const uint8_t *trunhoac_fill_subscribe(uint8_t *record, uint8_t p, uint8_t signal)
@@ -335,17 +364,17 @@ static inline const uint8_t *trunhoac_fill_unsubscribe(uint8_t *record, uint8_t 
 
 static inline const uint8_t *trunhoac_fill_hold(uint8_t *record, struct trunhoac_handle event)
 {
-    return trunhoac_fill(record, TRUNHOAC_HOLD, event.block, event.generation, 0, 0);
+    return trunhoac_fill_event(record, TRUNHOAC_HOLD, event, 0, 0);
 }
 
 static inline const uint8_t *trunhoac_fill_release(uint8_t *record, struct trunhoac_handle event)
 {
-    return trunhoac_fill(record, TRUNHOAC_RELEASE, event.block, event.generation, 0, 0);
+    return trunhoac_fill_event(record, TRUNHOAC_RELEASE, event, 0, 0);
 }
 
 static inline const uint8_t *trunhoac_fill_drop(uint8_t *record, struct trunhoac_handle event)
 {
-    return trunhoac_fill(record, TRUNHOAC_DROP, event.block, event.generation, 0, 0);
+    return trunhoac_fill_event(record, TRUNHOAC_DROP, event, 0, 0);
 }
 
 static inline const uint8_t *trunhoac_fill_next(uint8_t *record)
@@ -380,7 +409,7 @@ static inline const uint8_t *trunhoac_fill_tick(uint8_t *record)
 
 static inline const uint8_t *trunhoac_fill_read(uint8_t *record, struct trunhoac_handle event)
 {
-    return trunhoac_fill(record, TRUNHOAC_READ, event.block, event.generation, 0, 0);
+    return trunhoac_fill_event(record, TRUNHOAC_READ, event, 0, 0);
 }
 
 static inline const uint8_t *trunhoac_fill_drain(uint8_t *record, uint8_t budget)

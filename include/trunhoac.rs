@@ -18,7 +18,9 @@ pub const MOST_PAYLOAD_BYTES: usize = 64;
 /// The length of a slot, which takes the flat table of one chart.
 pub const SLOT_BYTES: usize = 16_152;
 /// The length of a reply.
-pub const REPLY_BYTES: usize = 24;
+pub const REPLY_BYTES: usize = 28;
+/// The last generation of a block, whose first is 0: one that is freed at it is retired.
+pub const LAST_GENERATION: u32 = 16_777_215;
 /// The most bytes of data in a frame.
 pub const FRAME_DATA: usize = 93;
 /// The longest frame as it is sent: an area of so many bytes has room for any.
@@ -26,23 +28,26 @@ pub const FRAME_BYTES: usize = 193;
 
 const HEAD_BYTES: usize = 8;
 const RECORD_BYTES: usize = HEAD_BYTES + MOST_PAYLOAD_BYTES;
+const HANDLE_BYTES: usize = 4;
 const PAYLOAD_AREA: usize = 1_536;
 const TABLE_AREA: usize = 4 * SLOT_BYTES;
 const LOG_LINES: usize = 255;
 const MOST_ACTIONS: usize = 18;
 /// What is told of a frame: five bytes, and room for its data.
 const TOLD_BYTES: usize = 5 + FRAME_DATA;
-/// A timer's event is told by this number and the timer's own.
+/// A timer's event is told by this number and the timer's own, in the place of a block.
 const FIRST_TIMER: u8 = 128;
+
+const MEMORY_WORDS: usize = 250;
 
 /// The kernel's memory. What it holds is the kernel's own.
 #[repr(C)]
 #[derive(Clone)]
 struct Memory {
-    words: [u64; 229],
+    words: [u64; MEMORY_WORDS],
 }
 
-const _: () = assert!(size_of::<Memory>() == 1_832 && align_of::<Memory>() == 8);
+const _: () = assert!(size_of::<Memory>() == 2_000 && align_of::<Memory>() == 8);
 
 /// The reader's memory. What it holds is the reader's own.
 #[repr(C)]
@@ -194,11 +199,15 @@ impl fmt::Display for Refusal {
 
 impl Error for Refusal {}
 
-/// An event's block and generation. It goes stale when the event is freed.
+/// An event's block and generation. It goes stale when the event is freed, and every command that names it is then
+/// refused for ever: no event of the kernel gets the same handle again.
+///
+/// For that a block which is freed at [`LAST_GENERATION`] is retired. The answer says freed as for any block, but the
+/// block is never handed out again, and counts as taken when its pool runs dry and in its mark.
 #[derive(Clone, Copy, Debug, PartialEq, Eq)]
 pub struct Handle {
     block: u8,
-    generation: u8,
+    generation: u32, // never more than three bytes: a handle comes out of a reply
 }
 
 impl Handle {
@@ -207,9 +216,14 @@ impl Handle {
         self.block
     }
 
-    /// How often the block was freed before, modulo 256.
-    pub fn generation(self) -> u8 {
+    /// How often the block was freed before: at most [`LAST_GENERATION`].
+    pub fn generation(self) -> u32 {
         self.generation
+    }
+
+    fn bytes(self) -> [u8; HANDLE_BYTES] {
+        let [low, middle, high, _] = self.generation.to_le_bytes();
+        [self.block, low, middle, high]
     }
 }
 
@@ -265,7 +279,7 @@ pub struct Step {
 }
 
 /// NEW's answer: the event, and its pool's mark. That is the least number of free blocks that the pool has had since
-/// the fresh start, the block just taken counted as taken.
+/// the fresh start; the block just taken counts as taken, and so do those that are retired.
 #[derive(Clone, Copy, Debug, PartialEq, Eq)]
 pub struct New {
     pub event: Handle,
@@ -332,8 +346,17 @@ impl Reply {
     }
 
     fn handle(&self) -> Handle {
-        let (block, generation) = self.values();
+        let [.., block, low, middle, high] = self.0;
+        let generation = u32::from_le_bytes([low, middle, high, 0]);
         Handle { block, generation }
+    }
+
+    fn event(&self) -> Event {
+        let handle = self.handle();
+        match handle.block.checked_sub(FIRST_TIMER) {
+            Some(timer) => Event::Timer(timer),
+            None => Event::Block(handle),
+        }
     }
 
     fn outcome(&self) -> Outcome {
@@ -345,7 +368,7 @@ impl Reply {
     }
 
     fn actions(&self) -> Actions {
-        let [_, _, _, count, _, _, places @ ..] = self.0;
+        let [_, _, _, count, _, _, places @ .., _, _, _, _] = self.0;
         Actions { places, count }
     }
 
@@ -362,10 +385,7 @@ impl Reply {
             object: self.0[1],
             outcome: self.outcome(),
             signal: self.0[2] % 32,
-            event: match self.first().checked_sub(FIRST_TIMER) {
-                Some(timer) => Event::Timer(timer),
-                None => Event::Block(self.handle()),
-            },
+            event: self.event(),
             actions: self.actions(),
         }
     }
@@ -412,6 +432,13 @@ fn record(command: Command, arguments: &[u8]) -> [u8; RECORD_BYTES] {
     record
 }
 
+/// A record of a command that names an event, with the arguments behind the handle.
+fn record_of(command: Command, event: Handle, arguments: &[u8]) -> [u8; RECORD_BYTES] {
+    let mut record = record(command, &event.bytes());
+    fill(&mut record[1 + HANDLE_BYTES..], arguments);
+    record
+}
+
 /// Copies as many bytes as there is room for.
 fn fill(room: &mut [u8], bytes: &[u8]) {
     for (place, byte) in room.iter_mut().zip(bytes) {
@@ -439,7 +466,9 @@ impl Kernel {
     /// A fresh kernel.
     pub fn fresh() -> Kernel {
         let mut parts = Box::new(Parts {
-            memory: Memory { words: [0; 229] },
+            memory: Memory {
+                words: [0; MEMORY_WORDS],
+            },
             payloads: [0; PAYLOAD_AREA],
             tables: [0; TABLE_AREA],
             log: [[0; REPLY_BYTES]; LOG_LINES],
@@ -470,19 +499,19 @@ impl Kernel {
 
     /// POST: to the back of an object's mail if more places than the margin are free; answers how many are queued.
     pub fn post(&mut self, event: Handle, object: u8, margin: u8) -> Result<u8, Refusal> {
-        let arguments = [event.block, event.generation, object, margin];
-        Ok(self.ask(Command::Post, &arguments)?.first())
+        let reply = self.ask_of(Command::Post, event, &[object, margin])?;
+        Ok(reply.first())
     }
 
     /// POSTFRONT: to the front of an object's mail; answers how many are queued.
     pub fn post_front(&mut self, event: Handle, object: u8) -> Result<u8, Refusal> {
-        let arguments = [event.block, event.generation, object];
-        Ok(self.ask(Command::PostFront, &arguments)?.first())
+        let reply = self.ask_of(Command::PostFront, event, &[object])?;
+        Ok(reply.first())
     }
 
     /// PUBLISH: to the back of every subscriber's mail, all or none.
     pub fn publish(&mut self, event: Handle) -> Result<Published, Refusal> {
-        let (receivers, freed) = self.ask_of(Command::Publish, event)?.values();
+        let (receivers, freed) = self.ask_of(Command::Publish, event, &[])?.values();
         let freed = freed == 1;
         Ok(Published { receivers, freed })
     }
@@ -499,19 +528,19 @@ impl Kernel {
 
     /// HOLD: keeps an event from being freed; answers its holds.
     pub fn hold(&mut self, event: Handle) -> Result<u8, Refusal> {
-        Ok(self.ask_of(Command::Hold, event)?.first())
+        Ok(self.ask_of(Command::Hold, event, &[])?.first())
     }
 
     /// RELEASE: takes a hold back.
     pub fn release(&mut self, event: Handle) -> Result<Released, Refusal> {
-        let (holds, freed) = self.ask_of(Command::Release, event)?.values();
+        let (holds, freed) = self.ask_of(Command::Release, event, &[])?.values();
         let freed = freed == 1;
         Ok(Released { holds, freed })
     }
 
     /// DROP: frees a new event that went nowhere.
     pub fn drop(&mut self, event: Handle) -> Result<(), Refusal> {
-        self.ask_of(Command::Drop, event).map(|_| ())
+        self.ask_of(Command::Drop, event, &[]).map(|_| ())
     }
 
     /// NEXT: opens the step of the front event of the most urgent object with mail.
@@ -551,7 +580,7 @@ impl Kernel {
 
     /// READ: an event's payload.
     pub fn read(&mut self, event: Handle) -> Result<&[u8], Refusal> {
-        let record = record(Command::Read, &[event.block, event.generation]);
+        let record = record_of(Command::Read, event, &[]);
         self.answer(&record, &[])?;
         let (mut place, mut length) = (0, 0);
         let payloads = &self.parts.payloads;
@@ -599,8 +628,13 @@ impl Kernel {
         Ok(self.ask(Command::Flush, &[side])?.first())
     }
 
-    fn ask_of(&mut self, command: Command, event: Handle) -> Result<Reply, Refusal> {
-        self.ask(command, &[event.block, event.generation])
+    fn ask_of(
+        &mut self,
+        command: Command,
+        event: Handle,
+        arguments: &[u8],
+    ) -> Result<Reply, Refusal> {
+        self.answer(&record_of(command, event, arguments), &[])
     }
 
     fn ask(&mut self, command: Command, arguments: &[u8]) -> Result<Reply, Refusal> {

@@ -1,8 +1,9 @@
 //! What the sample night does not reach of the wrapper. The values expected are those of documents 01 and 02.
 
 use trunhoac::Refusal::{self, *};
-use trunhoac::{chart_check, chart_flatten, DrainEnd, Event, Frame, Kernel, New, Outcome, Reader};
-use trunhoac::{Released, Step, Ticked, Writer, FRAME_BYTES, FRAME_DATA, REPLY_BYTES, SLOT_BYTES};
+use trunhoac::{chart_check, chart_flatten, DrainEnd, Event, Frame, Handle, Kernel, New, Outcome};
+use trunhoac::{Reader, Released, Step, Ticked, Writer};
+use trunhoac::{FRAME_BYTES, FRAME_DATA, LAST_GENERATION, REPLY_BYTES, SLOT_BYTES};
 
 #[path = "../../include/trunhoac.rs"]
 #[allow(dead_code)] // the night uses the rest
@@ -107,6 +108,51 @@ fn holds_are_counted() {
     let event = kernel.new(6, &[]).unwrap().event;
     assert_eq!((event.block(), event.generation()), (0, 1));
     assert_eq!(kernel.drop(event), Ok(()));
+}
+
+/// Every method that takes the event refuses it.
+fn assert_stale(kernel: &mut Kernel, event: Handle) {
+    assert_eq!(kernel.post(event, 9, 0), Err(Stale));
+    assert_eq!(kernel.post_front(event, 9), Err(Stale));
+    assert_eq!(kernel.publish(event), Err(Stale));
+    assert_eq!(kernel.hold(event), Err(Stale));
+    assert_eq!(kernel.release(event), Err(Stale));
+    assert_eq!(kernel.drop(event), Err(Stale));
+    assert_eq!(kernel.read(event), Err(Stale));
+}
+
+#[test]
+fn old_handles_are_refused_for_ever() {
+    let mut kernel = started(1);
+    let mut old: Vec<Handle> = Vec::new();
+    for life in 0..300 {
+        let event = kernel.new(6, &[]).unwrap().event;
+        assert_eq!((event.block(), event.generation()), (0, life));
+        assert_eq!(kernel.post(event, 9, 0), Ok(1));
+        let step = kernel.next().unwrap();
+        assert_eq!((step.event, kernel.end()), (Event::Block(event), Ok(true)));
+        old.push(event);
+    }
+    assert!(kernel.new(6, &[]).is_ok());
+    for event in old {
+        assert_stale(&mut kernel, event);
+    }
+}
+
+/// Takes some seconds: it goes through all lives of a block.
+#[test]
+fn a_block_is_retired_at_its_last_generation() {
+    let mut kernel = Kernel::fresh();
+    let mut last = None;
+    for generation in 0..=LAST_GENERATION {
+        let event = kernel.new(6, &[]).unwrap().event;
+        assert_eq!((event.block(), event.generation()), (0, generation));
+        assert_eq!(kernel.drop(event), Ok(()));
+        last = Some(event);
+    }
+    let New { event, least_free } = kernel.new(6, &[]).unwrap();
+    assert_eq!((event.block(), event.generation(), least_free), (1, 0, 30));
+    assert_stale(&mut kernel, last.unwrap());
 }
 
 #[test]

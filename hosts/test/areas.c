@@ -50,7 +50,7 @@ static void expect_nothing_named(int change, const uint8_t *record)
 
 static void test_change(int change)
 {
-    struct trunhoac_handle event = {0, 0};
+    struct trunhoac_handle event = {0};
     uint8_t record[TRUNHOAC_RECORD_BYTES];
 
     expect(answer_with(change, trunhoac_fill_load(record, 0)) == TRUNHOAC_AREA, "LOAD");
@@ -77,7 +77,7 @@ static const uint8_t *give(const uint8_t *record, size_t length)
 /* A NEW that is refused does not move its pool's mark: one block, freed and taken again, leaves 31 as before. */
 static void test_mark(void)
 {
-    struct trunhoac_handle event = {0, 0};
+    struct trunhoac_handle event = {0};
     uint8_t record[TRUNHOAC_RECORD_BYTES];
 
     trunhoac_fill_new(record, 4, NULL, 0);

@@ -116,7 +116,7 @@ static void use_side_queues(void)
 static void use_edges(void)
 {
     uint8_t *record = lent.record;
-    struct trunhoac_handle first = {0, 0}, last = {LAST_LARGE_BLOCK, 0};
+    struct trunhoac_handle first = {0}, last = {.block = LAST_LARGE_BLOCK};
 
     trunhoac_fresh(lent.kernel);
     done(trunhoac_fill_load(record, 0));

@@ -7,11 +7,12 @@
 #include "test.h"
 
 enum { BLOCKS = 56, POOLS = 3, OBJECTS = 16, PLACES = 16, SIDES = 8, SIGNAL_PLACES = 32, SLOTS = 4, TIMERS = 16 };
+enum { RETIRED = 0xFFFF }; /* the count of a retired block, and of no live one */
 enum { UNESCAPED = 96 }; /* the most bytes of a frame, unescaped */
 
 struct pool {
     uint64_t free; /* the digit of each block that is free */
-    uint8_t gens[BLOCKS];
+    uint32_t gens[BLOCKS];
     uint16_t counts[BLOCKS]; /* of a live block: its references */
     uint8_t marks[POOLS]; /* of each pool: the least number of its blocks that were free */
 };
@@ -58,9 +59,9 @@ _Static_assert(offsetof(struct trunhoac_frame, complete) == 0 && offsetof(struct
                    && offsetof(struct trunhoac_frame, size) == 4 && offsetof(struct trunhoac_frame, data) == 5,
                "and in this order");
 
-static const struct trunhoac_handle first_block = {0, 0};
-static const struct trunhoac_handle second_block = {1, 0};
-static const struct trunhoac_handle last_block = {BLOCKS - 1, 0};
+static const struct trunhoac_handle first_block = {.block = 0};
+static const struct trunhoac_handle second_block = {.block = 1};
+static const struct trunhoac_handle last_block = {.block = BLOCKS - 1};
 
 static uint8_t record[TRUNHOAC_RECORD_BYTES];
 static struct kernel k; /* as the library left it */
@@ -78,6 +79,13 @@ _Static_assert(offsetof(struct kernel, rests) + sizeof k.rests == sizeof k, "no 
 static void take_kernel(void)
 {
     memcpy(&k, lent_kernel(), sizeof k);
+}
+
+void set_generation(size_t block, uint32_t generation)
+{
+    take_kernel();
+    k.pool.gens[block] = generation;
+    memcpy(lent_kernel(), &k, sizeof k);
 }
 
 static bool same_bytes(size_t from, size_t to)
@@ -107,14 +115,20 @@ static void test_fresh(void)
     expect(k.pool.free == ((uint64_t)1 << BLOCKS) - 1, "every block is free");
 }
 
-static void test_blocks(void)
+/* The last block is handed out when its whole pool is. */
+static void make_first_and_last(void)
 {
     static const uint8_t payload[TRUNHOAC_MOST_PAYLOAD_BYTES] = {0};
 
-    lend_fresh(FILL);
     done(trunhoac_fill_new(record, 4, payload, 16));
     for (int block = 48; block < BLOCKS; block++)
         done(trunhoac_fill_new(record, 31, payload, sizeof payload));
+}
+
+static void test_blocks(void)
+{
+    lend_fresh(FILL);
+    make_first_and_last();
     expect(k.signals[0] == 4 && k.signals[BLOCKS - 1] == 31, "signals");
     expect(k.sizes[0] == 16 && k.sizes[BLOCKS - 1] == 64, "sizes");
     expect(k.pool.counts[0] == 0 && k.pool.counts[BLOCKS - 1] == 0, "new blocks");
@@ -130,6 +144,22 @@ static void test_blocks(void)
     done(trunhoac_fill_release(record, last_block));
     expect(k.pool.gens[0] == 1 && k.pool.gens[BLOCKS - 1] == 0, "generations");
     expect(is_free(0) && !is_free(BLOCKS - 1) && k.pool.counts[BLOCKS - 1] == 1, "a block that is free, and one that is not");
+}
+
+/* A generation has the bytes that a handle has. A block that is let go at the last one is retired. */
+static void test_generations(void)
+{
+    static const struct trunhoac_handle first = {0, {3, 2, 1}}, last = {BLOCKS - 1, {255, 255, 255}};
+
+    lend_fresh(FILL);
+    set_generation(0, 0x010203);
+    set_generation(BLOCKS - 1, TRUNHOAC_LAST_GENERATION);
+    make_first_and_last();
+    done(trunhoac_fill_drop(record, first));
+    done(trunhoac_fill_drop(record, last));
+    expect(k.pool.gens[0] == 0x010204 && is_free(0), "a block that is freed is one generation on");
+    expect(k.pool.gens[BLOCKS - 1] == TRUNHOAC_LAST_GENERATION, "the generation of a block that is retired stays");
+    expect(!is_free(BLOCKS - 1) && k.pool.counts[BLOCKS - 1] == RETIRED, "and the block is not free");
 }
 
 static void expect_marks(uint8_t small, uint8_t middle, uint8_t large)
@@ -303,6 +333,7 @@ void test_layout(void)
     now_at("layout", 0);
     test_fresh();
     test_blocks();
+    test_generations();
     test_marks();
     test_objects();
     test_mail();

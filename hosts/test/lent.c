@@ -5,7 +5,7 @@
  */
 #include "test.h"
 
-enum { MOST_SHOWN = TRUNHOAC_REPLY_BYTES - TRUNHOAC_AT_ACTIONS };
+enum { MOST_SHOWN = TRUNHOAC_AT_HANDLE - TRUNHOAC_AT_ACTIONS };
 
 /* Things of 8 bytes come first, and guards have a multiple of that: so no gap lies between a thing and its guards. */
 struct memory {
@@ -56,7 +56,7 @@ void lend_fresh(uint8_t fill)
     expect_as_due("a fresh start writes the kernel alone");
 }
 
-const struct trunhoac_kernel *lent_kernel(void)
+struct trunhoac_kernel *lent_kernel(void)
 {
     return &lent.kernel;
 }

@@ -13,6 +13,7 @@ int main(int argc, char **argv)
     unsigned long of_cases = test_doc_cases(argv[2]);
     unsigned long of_frames = test_frame_cases(argv[3]);
     test_layout();
+    test_lives();
     test_areas();
     test_edges();
     test_records();

@@ -34,7 +34,10 @@ static inline uint8_t *start_of(uint8_t *bytes, size_t length)
 
 void lend_fresh(uint8_t fill);
 const uint8_t *command(const uint8_t *record, size_t length, const struct chart *chart);
-const struct trunhoac_kernel *lent_kernel(void);
+struct trunhoac_kernel *lent_kernel(void);
+
+/* layout.c: makes the block of the lent kernel as if it had been freed so often. */
+void set_generation(size_t block, uint32_t generation);
 
 /* framed.c: the memory that the calls for frames are lent, between guards. */
 enum { MOST_FRAMED = 512, MOST_STREAM = 2048 }; /* of data and room, and of a stream */
@@ -71,6 +74,7 @@ unsigned long test_vectors(const char *folder);
 unsigned long test_doc_cases(const char *folder);
 unsigned long test_frame_cases(const char *folder);
 void test_layout(void);
+void test_lives(void);
 void test_areas(void);
 void test_edges(void);
 void test_records(void);

@@ -1,6 +1,7 @@
 /*
- * Reads a record written in words, and the bytes of its reply behind `=`:
+ * Reads a record written in words, and the bytes of its reply behind `=`, a handle's behind `@`:
  *     POST 0 0 9 2 = 0 0 0 0 1
+ *     NEW 6 20 = 0 0 0 15 @ 32 1
  * A number for a name is the first byte of a record, PIECE a record of just the bytes that follow, FRESH a mark.
  * TOP, STATE and ROW are the records of a chart, which have no reply.
  */
@@ -10,7 +11,7 @@
 
 #define BLANKS " \t\r\n"
 
-enum { ARM_TICKS = 4, NEW_UNUSED = 3, PAYLOAD = 8, CHART_RECORD_BYTES = 8 };
+enum { GENERATION = 2, ARM_TICKS = 4, NEW_UNUSED = 3, PAYLOAD = 8, CHART_RECORD_BYTES = 8 };
 
 enum { STATE = 1, ROW, TOP };
 
@@ -26,6 +27,12 @@ static const char *const names[] = {
     [TRUNHOAC_READ] = "READ",           [TRUNHOAC_DRAIN] = "DRAIN",
     [TRUNHOAC_DEFER] = "DEFER",         [TRUNHOAC_RECALL] = "RECALL",
     [TRUNHOAC_FLUSH] = "FLUSH",
+};
+
+/* The commands whose first two numbers are a handle. */
+static const bool names_event[TRUNHOAC_FLUSH + 1] = {
+    [TRUNHOAC_POST] = true,    [TRUNHOAC_POSTFRONT] = true, [TRUNHOAC_PUBLISH] = true, [TRUNHOAC_HOLD] = true,
+    [TRUNHOAC_RELEASE] = true, [TRUNHOAC_DROP] = true,      [TRUNHOAC_READ] = true,
 };
 
 static const char *const kinds[] = {[STATE] = "STATE", [ROW] = "ROW", [TOP] = "TOP"};
@@ -48,18 +55,25 @@ static bool read_number(const char *word, unsigned long most, unsigned long *num
     return *end == '\0' && *number <= most;
 }
 
-/* A payload begins behind the arguments, and only the last two numbers of ARM take two bytes, low byte first. */
+/* How many bytes a number takes: a generation three, each of the last two numbers of ARM two, any other one. */
+static size_t width_at(uint8_t name, size_t at)
+{
+    if (names_event[name] && at == GENERATION)
+        return 3;
+    return name == TRUNHOAC_ARM && at >= ARM_TICKS ? 2 : 1;
+}
+
+/* A payload begins behind the arguments. The low byte of a number comes first. */
 static bool put(struct line *line, uint8_t name, size_t *at, const char *word)
 {
     unsigned long number;
     if (name == TRUNHOAC_NEW && *at == NEW_UNUSED)
         *at = PAYLOAD;
-    size_t width = name == TRUNHOAC_ARM && *at >= ARM_TICKS ? 2 : 1;
-    if (*at + width > line->length || !read_number(word, width == 2 ? UINT16_MAX : UINT8_MAX, &number))
+    size_t width = width_at(name, *at);
+    if (*at + width > line->length || !read_number(word, (1ul << 8 * width) - 1, &number))
         return false;
-    line->record[(*at)++] = (uint8_t)number;
-    if (width == 2)
-        line->record[(*at)++] = (uint8_t)(number >> 8);
+    for (size_t i = 0; i < width; i++)
+        line->record[(*at)++] = (uint8_t)(number >> 8 * i);
     return true;
 }
 
@@ -87,17 +101,27 @@ static bool read_record(struct line *line, const char *first)
     return line->length > 0;
 }
 
-/* The zeros at the end of a reply are not written. */
-static bool read_reply(struct line *line, char *text)
+/* At least one; the zeros at their end are not written. */
+static bool read_bytes(uint8_t *bytes, size_t room, char *text)
 {
     size_t at = 0;
     for (const char *word = strtok(text, BLANKS); word != NULL; word = strtok(NULL, BLANKS)) {
         unsigned long number;
-        if (at == sizeof line->reply || !read_number(word, UINT8_MAX, &number))
+        if (at == room || !read_number(word, UINT8_MAX, &number))
             return false;
-        line->reply[at++] = (uint8_t)number;
+        bytes[at++] = (uint8_t)number;
     }
     return at > 0;
+}
+
+/* A handle that is all zeros is not written. */
+static bool read_reply(struct line *line, char *text)
+{
+    char *handle = strchr(text, '@');
+    if (handle != NULL)
+        *handle++ = '\0';
+    return read_bytes(line->reply, TRUNHOAC_AT_HANDLE, text)
+        && (handle == NULL || read_bytes(line->reply + TRUNHOAC_AT_HANDLE, sizeof(struct trunhoac_handle), handle));
 }
 
 bool read_words(char *text, struct line *line)
