@@ -27,6 +27,7 @@ use Rattle.machine.specs.State.{State, signalIn, subscribed, counterOf, room}
 use Rattle.machine.specs.Steps.{stepTests, stepped, next, letGoHand, ended, end, Drained, logged, drainFrom, drainDone, drain}
 use Rattle.story.proofs.Cells.{Moves, Grown, Fallen, grown-same, fallen-same, grown-more, fallen-fewer, moves-grown, moves-fallen, moves-same, moves-dropped, moves-handed, changed-each}
 use Rattle.story.proofs.Dispatch.{ByRecord, by-record}
+use Rattle.story.proofs.Handles.{saidEvent, new-ends}
 
 -- Blocks that gain references, or lose them, one after the other.
 posted-grown : (s : State) (b p : ℕ) (c : Cell) (k : ℕ) → Grown c (at (s .cells) k) → Grown c (at (posted s b p .cells) k)
@@ -92,7 +93,7 @@ module _ (s : State) (r : List ℕ) where
 
   -- it hands out block k; it lets go of block k while new
   abbrev pub Hands : Answer → ℕ → Type 0
-  Hands a k = Does 3 a × (getD (a .reply) 4 0 ≡ k)
+  Hands a k = Does 3 a × (saidEvent (a .reply) ≡ k)
 
   abbrev pub Goes : Answer → ℕ → Type 0
   Goes a k = (arg r 1 ≡ k) × (Does 11 a ⊎ (Does 6 a × (receivers s (signalIn s k) objects ≡ 0)))
@@ -122,7 +123,7 @@ module _ (s : State) (r d : List ℕ) (z : Areas) where
   new-moved : arg r 0 ≡ 3 → (g n : ℕ) (payload : List ℕ) (f : Found) → found (s .cells) n ≡ f → Moved s r (newIn f g n payload s z)
   unfolding newIn newEvent replyOf bytes
   new-moved e g n payload (At b) q =
-      changes _ handedOut b refl (λ k j. moves-handed _ _ (at (s .cells) k) (rw j (found-lowest (s .cells) (poolFor n) b q .is-free)) ((e, refl), sym j))
+      changes _ handedOut b refl (λ k j. moves-handed _ _ (at (s .cells) k) (rw j (found-lowest (s .cells) (poolFor n) b q .is-free)) ((e, refl), new-ends s b g n payload z .event ∙ sym j))
   new-moved e g n payload Nothing q = same _ refl
 
   publish-moved : arg r 0 ≡ 6 → (n : ℕ) → receivers s (signalIn s (arg r 1)) objects ≡ n → Moved s r (publishDone n (arg r 1) s z)

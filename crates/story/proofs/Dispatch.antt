@@ -13,7 +13,7 @@ use Rattle.machine.specs.Aside
 use Rattle.machine.specs.Charts
 use Rattle.machine.specs.Clocks
 use Rattle.machine.specs.Events
-use Rattle.machine.specs.Machine.{arg, arg16, payload, spoilt, spoiltNew, choose, command, answerTo}
+use Rattle.machine.specs.Machine.{arg, arg16, generation, payload, spoilt, spoiltNew, choose, command, answerTo}
 use Rattle.machine.specs.Numbers.{recordBytes, outside}
 use Rattle.machine.specs.Reply.{FORM, no, Areas, Answer, answer}
 use Rattle.machine.specs.State.{State}
@@ -34,20 +34,20 @@ pub record ByRecord (P : Answer → Type 0) (r d : List ℕ) (s : State) (z : Ar
   pub load : arg r 0 ≡ 1 → P (Charts.load (spoilt 1 r) (arg r 1) d s z)
   pub start : arg r 0 ≡ 2 → P (Charts.start (spoilt 3 r) (arg r 1) (arg r 2) (arg r 3) s z)
   pub new : arg r 0 ≡ 3 → P (Events.new (spoiltNew (arg r 2) r) (arg r 1) (arg r 2) (payload r) s z)
-  pub post : arg r 0 ≡ 4 → P (Events.post (spoilt 4 r) (arg r 1) (arg r 2) (arg r 3) (arg r 4) s z)
-  pub postFront : arg r 0 ≡ 5 → P (Events.postFront (spoilt 3 r) (arg r 1) (arg r 2) (arg r 3) s z)
-  pub publish : arg r 0 ≡ 6 → P (Events.publish (spoilt 2 r) (arg r 1) (arg r 2) s z)
+  pub post : arg r 0 ≡ 4 → P (Events.post (spoilt 6 r) (arg r 1) (generation r) (arg r 5) (arg r 6) s z)
+  pub postFront : arg r 0 ≡ 5 → P (Events.postFront (spoilt 5 r) (arg r 1) (generation r) (arg r 5) s z)
+  pub publish : arg r 0 ≡ 6 → P (Events.publish (spoilt 4 r) (arg r 1) (generation r) s z)
   pub subscribe : arg r 0 ≡ 7 → P (Events.subscribe (spoilt 2 r) (arg r 1) (arg r 2) s z)
   pub unsubscribe : arg r 0 ≡ 8 → P (Events.unsubscribe (spoilt 2 r) (arg r 1) (arg r 2) s z)
-  pub hold : arg r 0 ≡ 9 → P (Events.hold (spoilt 2 r) (arg r 1) (arg r 2) s z)
-  pub release : arg r 0 ≡ 10 → P (Events.release (spoilt 2 r) (arg r 1) (arg r 2) s z)
-  pub dropEvent : arg r 0 ≡ 11 → P (Events.dropEvent (spoilt 2 r) (arg r 1) (arg r 2) s z)
+  pub hold : arg r 0 ≡ 9 → P (Events.hold (spoilt 4 r) (arg r 1) (generation r) s z)
+  pub release : arg r 0 ≡ 10 → P (Events.release (spoilt 4 r) (arg r 1) (generation r) s z)
+  pub dropEvent : arg r 0 ≡ 11 → P (Events.dropEvent (spoilt 4 r) (arg r 1) (generation r) s z)
   pub next : arg r 0 ≡ 12 → P (Steps.next (spoilt 0 r) s z)
   pub end : arg r 0 ≡ 13 → P (Steps.end (spoilt 0 r) s z)
   pub arm : arg r 0 ≡ 14 → P (Clocks.arm (spoilt 7 r) (arg r 1) (arg r 2) (arg r 3) (arg16 r 4) (arg16 r 6) s z)
   pub disarm : arg r 0 ≡ 15 → P (Clocks.disarm (spoilt 1 r) (arg r 1) s z)
   pub tick : arg r 0 ≡ 16 → P (Clocks.tick (spoilt 0 r) s z)
-  pub read : arg r 0 ≡ 17 → P (Events.read (spoilt 2 r) (arg r 1) (arg r 2) s z)
+  pub read : arg r 0 ≡ 17 → P (Events.read (spoilt 4 r) (arg r 1) (generation r) s z)
   pub drain : arg r 0 ≡ 18 → P (Steps.drain (spoilt 1 r) (arg r 1) s z)
   pub defer : arg r 0 ≡ 19 → P (Aside.defer (spoilt 1 r) (arg r 1) s z)
   pub recall : arg r 0 ≡ 20 → P (Aside.recall (spoilt 2 r) (arg r 1) (arg r 2) s z)

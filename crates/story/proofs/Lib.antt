@@ -1,8 +1,8 @@
--- Theorems says what is proved; Examples shows that none of it is empty. The others, by subject: Dispatch, Made and Frames: from the commands
--- to any record, what a call did that was done, what only some commands change. Numbers, Lines, Refusals: the table. Cells, Blocks, Counting:
--- blocks. Taking and Starting: NEXT and START. Draining and Pairs: DRAIN. Charted, Tables, Nested, Resting: charts and tables. Over: bytes
--- written over others. Payloads: payloads, and the lengths of the areas. Aside: side queues. Marks: the
--- least number of free blocks.
+-- Theorems says what is proved; Examples, a run, and Meets and Retiring show that none of it is empty. The others, by subject: Dispatch, Made
+-- and Frames: from the commands to any record, what a call did that was done, what only some commands change. Numbers, Lines, Refusals: the
+-- table. Cells, Blocks, Lasting, Counting: blocks. Handles: the handle in a reply. Once: old handles. Taking and Starting: NEXT and START.
+-- Draining and Pairs: DRAIN. Charted, Tables, Nested, Resting: charts and tables. Over: bytes written over others. Payloads: payloads, and
+-- the lengths of the areas. Aside: side queues. Marks: the least number of free blocks.
 pub mod Aside
 pub mod Blocks
 pub mod Cells
@@ -12,16 +12,21 @@ pub mod Dispatch
 pub mod Draining
 pub mod Examples
 pub mod Frames
+pub mod Handles
+pub mod Lasting
 pub mod Lines
 pub mod Made
 pub mod Marks
+pub mod Meets
 pub mod Nested
 pub mod Numbers
+pub mod Once
 pub mod Over
 pub mod Pairs
 pub mod Payloads
 pub mod Refusals
 pub mod Resting
+pub mod Retiring
 pub mod Starting
 pub mod Tables
 pub mod Taking

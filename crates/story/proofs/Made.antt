@@ -13,7 +13,7 @@ use Rattle.machine.proofs.Tests.{unless-none}
 use Rattle.machine.specs.Aside.{deferTests, setAside, defer, recallTests, recallDone, recall, flushTests, flushed, flush}
 use Rattle.machine.specs.Charts.{loadTests, load, startRow, startTests, startedAt, start}
 use Rattle.machine.specs.Events.{newTests, newIn, new, receivers, publishTests, publishDone, publish, dropTests, dropEvent, freedNew, readTests, payloadOf, read}
-use Rattle.machine.specs.Machine.{arg, payload, spoilt, spoiltNew, choose, command, answerTo}
+use Rattle.machine.specs.Machine.{arg, generation, payload, spoilt, spoiltNew, choose, command, answerTo}
 use Rattle.machine.specs.Numbers.{objects, recordBytes}
 use Rattle.machine.specs.Reply.{over, withTables, done, ran, shown, Areas, Answer, answer, lowest, unless, unlessFault, replyOf, bytes}
 use Rattle.machine.specs.State.{State, signalIn, sideOf, withLoaded}
@@ -90,12 +90,12 @@ module _ (s : State) (r d : List ℕ) (z : Areas) (e : numberOf (answerTo s r d 
   unfolding command choose new
   new-made q = by-command 3 _ _ q refl
 
-  pub publish-made : arg r 0 ≡ 6 → Made (answerTo s r d z) (publishTests (spoilt 2 r) (arg r 1) (arg r 2) s)
+  pub publish-made : arg r 0 ≡ 6 → Made (answerTo s r d z) (publishTests (spoilt 4 r) (arg r 1) (generation r) s)
       (publishDone (receivers s (signalIn s (arg r 1)) objects) (arg r 1) s z)
   unfolding command choose publish
   publish-made q = by-command 6 _ _ q refl
 
-  pub drop-made : arg r 0 ≡ 11 → Made (answerTo s r d z) (dropTests (spoilt 2 r) (arg r 1) (arg r 2) s) (answer (freedNew s (arg r 1)) (done 0 0) z)
+  pub drop-made : arg r 0 ≡ 11 → Made (answerTo s r d z) (dropTests (spoilt 4 r) (arg r 1) (generation r) s) (answer (freedNew s (arg r 1)) (done 0 0) z)
   unfolding command choose dropEvent
   drop-made q = by-command 11 _ _ q refl
 
@@ -103,7 +103,7 @@ module _ (s : State) (r d : List ℕ) (z : Areas) (e : numberOf (answerTo s r d 
   unfolding command choose next
   next-made q = by-command 12 _ _ q refl
 
-  pub read-made : arg r 0 ≡ 17 → Made (answerTo s r d z) (readTests (spoilt 2 r) (arg r 1) (arg r 2) s (z .payloads))
+  pub read-made : arg r 0 ≡ 17 → Made (answerTo s r d z) (readTests (spoilt 4 r) (arg r 1) (generation r) s (z .payloads))
       (answer s (shown (payloadOf s (arg r 1) (z .payloads))) z)
   unfolding command choose read
   read-made q = by-command 17 _ _ q refl

@@ -1,5 +1,4 @@
 -- How near each pool came to having no block left: what a call makes of a mark and of the free blocks, and the smallest number of these.
-use mathlib.Core.Bool.{true}
 use mathlib.Core.List.{List}
 use mathlib.Core.Logic.{_⊎_, inl, inr, ⊎-elim}
 use mathlib.Core.Path.{_≡_, refl, sym, ap, subst, _∙_}
@@ -7,13 +6,12 @@ use Prim.Native.Nat.{ℕ, zero, suc, _<_, _≤_, min}
 use native.Mathlib.Omega.{arith, min-cases}
 use lib.ListN.{length, getD, length-set}
 use lib.Seq.{getD-set-same, getD-set-other}
-use Rattle.ground.specs.Bools.{eq-or, no-yes}
+use Rattle.ground.specs.Bools.{eq-or}
 use Rattle.machine.specs.Events.{newEvent, newIn}
-use Rattle.machine.specs.Inv.{isLive}
 use Rattle.machine.specs.Machine.{payload}
 use Rattle.machine.specs.Reply.{replyOf, bytes}
-use Rattle.pool.specs.Cell.{Cell, free, live, absent, isFree, handedOut}
-use Rattle.pool.specs.Laws.{Lowest, changed-other, found-again, pool-end}
+use Rattle.pool.specs.Cell.{handedOut}
+use Rattle.pool.specs.Laws.{Lowest, changed-other, found-again}
 use Rattle.pool.specs.Mark.{markOf, markWith, marksAfter, pools}
 use Rattle.pool.specs.Pools.{free-more, free-same, fresh-free, fresh-mark, pool-marked, same-number, same-pool}
 use Rattle.pool.specs.Row.{changed, poolFor}
@@ -22,9 +20,10 @@ use Rattle.pool.specs.declared.Span.{Span}
 use Rattle.story.specs.Calls.{Call, Story, fresh, then, kernel, answerIn}
 use Rattle.story.specs.Demands.{Marked, MarkShown, OnlyTaking}
 use Rattle.story.specs.Table.{NEW}
-use Rattle.story.specs.Terms.{argument, commandOf, number, value₁, Did, cell, freeBlocks, mark, earlier, Smallest}
-use Rattle.story.proofs.Cells.{isThere}
-use Rattle.story.proofs.Counting.{handed, onlyNew, there}
+use Rattle.story.specs.Terms.{argument, commandOf, number, event, Did, freeBlocks, mark, earlier, Smallest}
+use Rattle.story.proofs.Cells.{moves-free}
+use Rattle.story.proofs.Counting.{handed}
+use Rattle.story.proofs.Lasting.{turned}
 use Rattle.story.proofs.Made.{new-made}
 use Rattle.story.proofs.Tables.{frame, unchanged-state}
 
@@ -35,21 +34,13 @@ module _ (h : Story) (c : Call) (other : Did NEW h c → ⊥) where
   marks-stay =
       ⊎-elim (λ d. frame h c .marks (λ e. other (e, d))) (λ n. ap (λ s. s .marks) (unchanged-state h c n)) (eq-or (number h c) 0)
 
-  free-or-live : (x : Cell) → isThere x ≡ true → (isFree x ≡ true) ⊎ (isLive x ≡ true)
-  unfolding isThere isFree isLive
-  free-or-live (free g) t = inl refl
-  free-or-live (live g n) t = inr refl
-  free-or-live absent t = no-yes t
-
   none-taken : (size : ℕ) → freeBlocks h (poolFor size) ≤ freeBlocks (then h c) (poolFor size)
-  none-taken size =
-      free-more (poolFor size) _ _ (λ b l g f.
-      ⊎-elim (λ e. e) (λ e. absurd (other (onlyNew h c b f e .0))) (free-or-live (cell (then h c) b) (there (then h c) b (omega (arith, pool-end size)))))
+  none-taken size = free-more (poolFor size) _ _ (λ b l g f. ⊎-elim (λ e. e) (λ w. absurd (other (w .0))) (moves-free _ _ _ _ (turned h c b) f))
 
 -- ## A NEW that is done
 module _ (h : Story) (c : Call) (did : Did NEW h c) where
   abbrev taken : ℕ
-  taken = value₁ h c
+  taken = event h c
 
   abbrev its : Span
   its = poolFor (argument c 2)

@@ -14,19 +14,19 @@ use Rattle.chart.specs.Step
 use Rattle.chart.specs.Step.{step}
 use Rattle.machine.specs.Charts.{startRow, startedAt}
 use Rattle.machine.specs.Numbers.{tableBytes}
-use Rattle.machine.specs.Reply.{ran, replyOf, bytes}
+use Rattle.machine.specs.Reply.{ran, replyOf, bytes, handle}
 use Rattle.machine.specs.State.{State, restOf, slotOf}
-use Rattle.machine.specs.Steps.{toRun, coming, signalOf, handle₁, handle₂, nextRow, stepped, nextSays}
+use Rattle.machine.specs.Steps.{toRun, coming, signalOf, firstByte, generationIn, nextRow, stepped, nextSays}
 use Rattle.story.specs.Calls.{Call, Story, then, kernel, tableArea, left, OnlyKernel}
 use Rattle.story.specs.Demands
 use Rattle.story.specs.Table.{START, NEXT}
-use Rattle.story.specs.Terms.{argument, commandOf, reply, object, value₁, value₂, Did, chartIn, nextCall, endCall, steps, says, signalTaken, nested}
+use Rattle.story.specs.Terms.{argument, commandOf, reply, object, event, generation, Did, chartIn, nextCall, endCall, steps, says, signalTaken, nested}
 use Rattle.story.proofs.Charted.{Charted, start-there, next-row, row-next}
 use Rattle.story.proofs.Pairs.{drained, drain-whole}
 use Rattle.story.proofs.Refusals.{kept}
 use Rattle.story.proofs.Starting.{start-did}
 use Rattle.story.proofs.Tables.{charted, before, lent, left-same, frame}
-use Rattle.story.proofs.Taking.{next-ready, next-steps, next-whole}
+use Rattle.story.proofs.Taking.{next-ready, next-steps, next-generation, next-whole}
 
 pub tables : Demands.Tables
 tables h first only q l on =
@@ -40,9 +40,9 @@ twice : (l m : List ℕ) → padded 18 (padded 18 l ++ m) ≡ padded 18 l
 unfolding padded
 twice l m = ap (take 18) (append-assoc (padded 18 l) m (replicate 18 0)) ∙ take-at (padded 18 l) (m ++ replicate 18 0) 18 (length-padded 18 l)
 
-row-says : (p g v w : ℕ) (a : Step.Answer) → replyOf (ran p g v w (rowOf a)) ≡ says p g v w a
+row-says : (p g first gen : ℕ) (a : Step.Answer) → replyOf (ran p g first gen (rowOf a)) ≡ says p g first gen a
 unfolding replyOf bytes rowOf padded
-row-says p g v w a = ap (λ (l : List ℕ). 0 ∷ p ∷ (a .outcome * 32 + g) ∷ length (a .acts) ∷ v ∷ w ∷ l) (twice (a .acts) (replicate 3 0))
+row-says p g first gen a = ap (λ (l : List ℕ). 0 ∷ p ∷ (a .outcome * 32 + g) ∷ length (a .acts) ∷ 0 ∷ 0 ∷ (l ++ handle first gen)) (twice (a .acts) (replicate 3 0))
 
 -- the tables that a call is lent, where only the kernel writes to them
 pub charted-lent : (h : Story) (c : Call) (first : List ℕ) → OnlyKernel tableArea first (then h c) → length (c .areas .tables) ≡ tableBytes →
@@ -91,12 +91,12 @@ module _ (h : Story) (c : Call) (first : List ℕ) (only : OnlyKernel tableArea 
   is-nested : nested h c ≡ takenStep
   is-nested = rw (next-steps h c did .object, hand-is) refl
 
-  answers : reply h c ≡ says (object h c) (signalTaken h c) (value₁ h c) (value₂ h c) (nested h c)
+  answers : reply h c ≡ says (object h c) (signalTaken h c) (event h c) (generation h c) (nested h c)
   unfolding nextSays
   answers =
       let w = next-steps h c did in
-      w .reply ∙ ap (λ r. replyOf (ran (toRun s) (signalOf s (coming s)) (handle₁ (coming s)) (handle₂ s (coming s)) r)) row ∙ row-says _ _ _ _ takenStep
-      ∙ sym (rw (is-nested, w .object, hand-is, w .value₁, w .value₂) refl)
+      w .reply ∙ ap (λ r. replyOf (ran (toRun s) (signalOf s (coming s)) (firstByte (coming s)) (generationIn s (coming s)) r)) row ∙ row-says _ _ _ _ takenStep
+      ∙ sym (rw (is-nested, w .object, hand-is, w .ends .event, next-generation h c did) refl)
 
   rests-there : restOf (kernel (then h c)) (object h c) ≡ nested h c .next
   unfolding kernel stepped

@@ -3,7 +3,7 @@ use mathlib.Core.Bool.{Bool, true, false, cond}
 use mathlib.Core.List.{List, _++_}
 use mathlib.Core.Logic.{⊎-elim}
 use mathlib.Core.Path.{_≡_, refl, sym, ap, _∙_}
-use Prim.Native.Nat.{ℕ, zero, suc, _+_, _*_, _-_, _≤_, _<_}
+use Prim.Native.Nat.{ℕ, _+_, _*_, _-_, _≤_, _<_}
 use native.Mathlib.Decide.{ℕ-discrete, decLt}
 use native.Mathlib.Omega.{arith}
 use borrow.Author.Tests.{eqb-true, eq-eqb, ne-eqb, ltb-true, ltb-false, not-false}
@@ -16,7 +16,7 @@ use Rattle.ground.specs.Padding.{length-padded}
 use Rattle.chart.proofs.Theorems.{slot-size}
 use Rattle.chart.specs.Flat.{slotBytes}
 use Rattle.chart.specs.Numbers.{slotSize}
-use Rattle.pool.specs.Cell.{Cell, free, live, absent, isFree, handedOut}
+use Rattle.pool.specs.Cell.{handedOut}
 use Rattle.pool.specs.Laws.{changed-other, found-lowest, pool-end}
 use Rattle.pool.specs.Row.{at, blocks, found, poolFor}
 use Rattle.pool.specs.declared.Found.{Found}
@@ -26,16 +26,17 @@ use Rattle.machine.proofs.Counts.{live-handle}
 use Rattle.machine.proofs.Tests.{NoneHolds, none-holds, within-high, within-block}
 use Rattle.machine.specs.Events.{noneFound, newTests, newEvent, newIn, readTests, payloadOf, readPart}
 use Rattle.machine.specs.Inv.{isLive}
-use Rattle.machine.specs.Machine.{payload, spoilt, spoiltNew, partOf}
+use Rattle.machine.specs.Machine.{generation, payload, spoilt, spoiltNew, partOf}
 use Rattle.machine.specs.Numbers.{payloadBytes, recordBytes, capacity, placeOf}
-use Rattle.machine.specs.Reply.{Areas, Answer, over, lowest, replyOf, bytes}
+use Rattle.machine.specs.Reply.{Areas, Answer, over, lowest}
 use Rattle.machine.specs.State.{State, sizeIn}
 use Rattle.story.specs.Calls.{Call, Story, fresh, then, kernel, answerIn, payloadArea, left, OnlyKernel}
 use Rattle.story.specs.Demands
 use Rattle.story.specs.Table.{LOAD, NEW, READ, DRAIN}
-use Rattle.story.specs.Terms.{argument, commandOf, number, value₁, Did, givenTo, cell}
-use Rattle.story.proofs.Cells.{isThere}
-use Rattle.story.proofs.Counting.{there, onlyNew}
+use Rattle.story.specs.Terms.{argument, commandOf, number, event, Did, givenTo, cell}
+use Rattle.story.proofs.Cells.{moves-live}
+use Rattle.story.proofs.Handles.{saidEvent, new-ends}
+use Rattle.story.proofs.Lasting.{fresh-each, turned}
 use Rattle.story.proofs.Made.{Made, is-long, load-done, new-made, read-made}
 use Rattle.story.proofs.Over.{over-length, over-here, over-before, over-behind}
 use Rattle.story.proofs.Pairs.{drain-log}
@@ -67,21 +68,10 @@ pub record Has (n : ℕ) (area : List ℕ) (b : ℕ) (l : List ℕ) : Type 0 whe
 abbrev pub Given : Story → List ℕ → ℕ → Type 0
 Given h first b = Has (sizeIn (kernel h) b) (left payloadArea first h) b (givenTo h b)
 
--- a block that is there is free or live
-free-or-live : (c : Cell) → isThere c ≡ true → isLive c ≡ false → isFree c ≡ true
-unfolding isThere isLive isFree
-free-or-live (free g) t e = refl
-free-or-live (live g n) t e = no-yes (sym e)
-free-or-live absent t e = t
-
 module _ (h : Story) (c : Call) (first : List ℕ) (only : OnlyKernel payloadArea first (then h c)) (b : ℕ) (l : b < blocks) (lives : isLive (cell (then h c) b) ≡ true) where
   -- a call that is no NEW that was done
   lived : (Did NEW h c → ⊥) → isLive (cell h b) ≡ true
-  lived ne = go (isLive (cell h b)) refl
-    where
-      go : (t : Bool) → isLive (cell h b) ≡ t → t ≡ true
-      go true e = refl
-      go false e = absurd (ne (onlyNew h c b (free-or-live (cell h b) (there h b l) e) lives .0))
+  lived ne = ⊎-elim (λ e. e) (λ w. absurd (ne (w .0))) (moves-live _ _ _ _ (turned h c b) lives)
 
   given-same : (Did NEW h c → ⊥) → givenTo (then h c) b ≡ givenTo h b
   unfolding givenTo
@@ -126,15 +116,15 @@ module _ (sizes area : List ℕ) (k n : ℕ) (p : List ℕ) (l : k < length size
 record News (s : State) (z : Areas) (g n : ℕ) (l : List ℕ) (k : ℕ) (a : Answer) : Type 0 where
   sizes : a .state .events .sizes ≡ set (s .events .sizes) k n
   payloads : a .areas .payloads ≡ over (z .payloads) (placeOf k) (padded (capacity k) (take n l))
-  value₁ : getD (a .reply) 4 0 ≡ k
+  event : saidEvent (a .reply) ≡ k
   others : (b : ℕ) → (b ≡ k → ⊥) → at (a .state .cells) b ≡ at (s .cells) b
 
 news-of : (s : State) (z : Areas) (g n : ℕ) (l : List ℕ) (k : ℕ) (a : Answer) → a ≡ newIn (At k) g n l s z → News s z g n l k a
-unfolding newIn newEvent replyOf bytes
+unfolding newIn newEvent
 news-of s z g n l k a e = record {
   sizes = rw e refl;
   payloads = rw e refl;
-  value₁ = rw e refl;
+  event = rw e (new-ends s k g n l z .event);
   others = λ b ne. rw e (changed-other handedOut (s .cells) k b ne);
 }
 
@@ -168,7 +158,7 @@ module _ (h : Story) (c : Call) (did : Did NEW h c) where
   given-long : length (take (argument c 2) (payload r)) ≡ argument c 2
   given-long = length-take-le (argument c 2) (payload r) (omega (arith, small, length-drop 8 r, eqb-true (length r) recordBytes (is-long s r (c .chart) (c .areas) (did .1))))
 
-  given-new : (k b : ℕ) → value₁ h c ≡ k → givenTo (then h c) b ≡ cond (eqb k b) (take (argument c 2) (payload r)) (givenTo h b)
+  given-new : (k b : ℕ) → event h c ≡ k → givenTo (then h c) b ≡ cond (eqb k b) (take (argument c 2) (payload r)) (givenTo h b)
   unfolding givenTo
   given-new k b e = rw (does-so h c NEW did, e) refl
 
@@ -181,7 +171,7 @@ module _ (h : Story) (c : Call) (did : Did NEW h c) where
       let x = news-of s (c .areas) (argument c 1) (argument c 2) (payload r) k (answerIn h c) (rw e at (made .is)) in
       let area : c .areas .payloads ≡ left payloadArea first h = lent payloadArea first h c only whole in
       let z : sizeIn (answerIn h c .state) b ≡ getD (set (s .events .sizes) k (argument c 2)) b 0 = ap (λ (y : List ℕ). getD y b 0) (x .sizes) in
-      rw (z, left-whole payloadArea first h c only whole, x .payloads, given-new k b (x .value₁)) (
+      rw (z, left-whole payloadArea first h c only whole, x .payloads, given-new k b (x .event)) (
       placed (s .events .sizes) (c .areas .payloads) k (argument c 2) (take (argument c 2) (payload r)) (omega (arith, kept h .store .sizes-length)) m whole given-long b (givenTo h b)
       (λ ne. rw area (was (rw (x .others b ne) at lives))))
   new-has first only b l lives was Nothing e = no-yes (sym (rw e at is-found))
@@ -195,14 +185,10 @@ module _ (h : Story) (c : Call) (did : Did NEW h c) where
       ap length (x .payloads) ∙ over-length (c .areas .payloads) (placeOf k) _ (omega (arith, whole, place-end k m, length-padded (capacity k) (take (argument c 2) (payload r))))
   new-length Nothing e = no-yes (sym (rw e at is-found))
 
-fresh-free : (n b : ℕ) → isLive (getD (replicate n (free 0)) b absent) ≡ false
-unfolding isLive
-fresh-free zero b = refl
-fresh-free (suc n) zero = refl
-fresh-free (suc n) (suc b) = fresh-free n b
-
 given : (h : Story) (first : List ℕ) → OnlyKernel payloadArea first h → (b : ℕ) → b < blocks → isLive (cell h b) ≡ true → Given h first b
-given fresh first only b l lives = unfold kernel in no-yes (sym (fresh-free blocks b) ∙ lives)
+given fresh first only b l lives =
+    let none : isLive (cell fresh b) ≡ false = unfold isLive in fresh-each (λ c. isLive c ≡ false) refl refl b in
+    no-yes (sym none ∙ lives)
 given (then h c) first only b l lives =
     let was = given h first (before payloadArea first h c only) b l in
     ⊎-elim (λ d.
@@ -241,7 +227,7 @@ unfolding padded
 front-of k l h = take-take (length l) k (l ++ replicate k 0) h ∙ take-at l (replicate k 0) (length l) refl
 
 part-is : (s : State) (r area : List ℕ) → eqb (length r) recordBytes ≡ true → getD r 0 0 ≡ READ →
-    lowest (readTests (spoilt 2 r) (getD r 1 0) (getD r 2 0) s area) ≡ 0 → partOf s r area ≡ payloadOf s (getD r 1 0) area
+    lowest (readTests (spoilt 4 r) (getD r 1 0) (generation r) s area) ≡ 0 → partOf s r area ≡ payloadOf s (getD r 1 0) area
 unfolding partOf readPart
 part-is s r area long e none = rw (long, e, none) refl
 
@@ -253,10 +239,10 @@ reads h c first only did =
     let b = argument c 1 in
     let area = c .areas .payloads in
     let m = read-made s r (c .chart) (c .areas) (did .1) (did .0) in
-    let n = none-holds (readTests (spoilt 2 r) b (argument c 2) s area) refl (m .none) in
+    let n = none-holds (readTests (spoilt 4 r) b (generation r) s area) refl (m .none) in
     let whole : length area ≡ payloadBytes = eqb-true _ payloadBytes (not-false _ (n .1 .0)) in
     let l : b < blocks = within-block b (n .1 .1 .0) in
-    let lives = live-handle (s .cells) b (argument c 2) (n .1 .1 .1 .0) in
+    let lives = live-handle (s .cells) b (generation r) (n .1 .1 .1 .0) in
     let w = given h first (before payloadArea first h c only) b l lives in
     let fits : sizeIn s b ≤ capacity b = kept h .store .size b lives in
     part-is s r area (is-long s r (c .chart) (c .areas) (did .1)) (did .0) (m .none)

@@ -1,27 +1,29 @@
 -- Demand 1.
 use mathlib.Core.Bool.{true, _&&_}
 use mathlib.Core.List.{List, []}
+use mathlib.Core.Logic.{⊎-elim}
 use mathlib.Core.Path.{_≡_, refl, sym, ap, _∙_}
-use Prim.Native.Nat.{ℕ, _<_}
+use Prim.Native.Nat.{ℕ, _<_, _≤_}
+use native.Mathlib.Decide.{decLt}
 use native.Mathlib.Omega.{arith}
 use borrow.Author.Tests.{eqb-true}
 use lib.Dec.{eqb}
 use lib.ListN.{length, getD}
-use Rattle.ground.specs.Bools.{and-left, and-right, cond-pick}
+use Rattle.ground.specs.Bools.{and-left, and-right, cond-pick, eq-or, no-yes}
 use Rattle.machine.proofs.Fresh.{fresh-inv}
 use Rattle.machine.proofs.Keeps.{keeps}
 use Rattle.machine.proofs.Replies.{replies}
 use Rattle.machine.proofs.Tests.{unless-none}
 use Rattle.machine.specs.Events.{readTests, read, readPart}
 use Rattle.machine.specs.Inv.{Inv}
-use Rattle.machine.specs.Machine.{arg, spoilt, choose, command, answerTo, partOf}
+use Rattle.machine.specs.Machine.{arg, generation, spoilt, choose, command, answerTo, partOf}
 use Rattle.machine.specs.Numbers.{recordBytes}
-use Rattle.machine.specs.Reply.{Areas, lowest, replyOf, bytes}
+use Rattle.machine.specs.Reply.{DONE, Areas, lowest, replyOf, bytes}
 use Rattle.machine.specs.State.{State}
 use Rattle.story.specs.Calls.{Call, Story, fresh, then, kernel}
 use Rattle.story.specs.Demands.{Answered, Refused, Done, Untouched}
 use Rattle.story.specs.Table.{tableOf, applies}
-use Rattle.story.specs.Terms.{number}
+use Rattle.story.specs.Terms.{number, appliesTo}
 use Rattle.story.proofs.Lines.{Lines, rising, Leads, lowest-leads, leads-lowest, lowest-none, none-lowest}
 use Rattle.story.proofs.Numbers.{number-is}
 
@@ -58,9 +60,20 @@ done h c =
       λ none. e ∙ none-lowest (linesOf h c) 0 (rises h c) none,
     )
 
+-- where a line applies, its number is answered or a lower one
+pub applying : (h : Story) (c : Call) (n : ℕ) → appliesTo h c n ≡ true → (DONE < number h c) × (number h c ≤ n)
+applying h c n e = (pos, least (decLt n (number h c)))
+  where
+    pos : DONE < number h c
+    pos = ⊎-elim (λ z. no-yes (sym (done h c .0 z n) ∙ e)) (λ ne. omega arith) (eq-or (number h c) DONE)
+
+    least : Dec (n < number h c) → number h c ≤ n
+    least (yes l) = no-yes (sym (refused h c (number h c) pos .0 refl .1 n l) ∙ e)
+    least (no ge) = omega arith
+
 -- a record that shows a part is a READ that is done
 shown-done : (s : State) (r d : List ℕ) (z : Areas) → (eqb (length r) recordBytes && eqb (arg r 0) 17) ≡ true →
-    eqb (lowest (readTests (spoilt 2 r) (arg r 1) (arg r 2) s (z .payloads))) 0 ≡ true → getD (answerTo s r d z .reply) 0 0 ≡ 0
+    eqb (lowest (readTests (spoilt 4 r) (arg r 1) (generation r) s (z .payloads))) 0 ≡ true → getD (answerTo s r d z .reply) 0 0 ≡ 0
 unfolding answerTo command choose read replyOf bytes
 shown-done s r d z e none =
     let long = and-left (eqb (length r) recordBytes) _ e in

@@ -1,22 +1,28 @@
 -- Demand 2, NEXT: it takes the front event of the highest object with mail.
 use mathlib.Core.List.{List, [], _∷_}
 use mathlib.Core.Path.{_≡_, refl, sym, subst}
-use Prim.Native.Nat.{ℕ, _-_}
+use Prim.Native.Nat.{ℕ, _-_, _≤_}
 use native.Mathlib.Omega.{arith}
 use borrow.Author.Tests.{eqb-true, not-false}
 use lib.ListN.{length, getD}
 use Rattle.mail.specs.Box.{rest}
 use Rattle.mail.specs.Laws.{highest-is, changed-here, changed-other}
+use Rattle.mail.specs.declared.Hand.{Hand}
+use Rattle.mail.specs.declared.Hand.the-variants.{Nothing, Block, Timer}
+use Rattle.pool.specs.Cell.{lastGeneration}
+use Rattle.pool.specs.Row.{generationAt}
 use Rattle.machine.proofs.KeepsSteps.{Ready, ready}
 use Rattle.machine.proofs.Tests.{none-holds}
 use Rattle.machine.specs.Numbers.{tableBytes}
 use Rattle.machine.specs.Reply.{Areas, Answer, answer, replyOf, bytes}
 use Rattle.machine.specs.State.{State}
-use Rattle.machine.specs.Steps.{toRun, coming, handle₁, handle₂, stepTests, nextTests, stepped, nextSays}
+use Rattle.machine.specs.Steps.{toRun, coming, firstByte, generationIn, stepTests, nextTests, stepped, nextSays}
 use Rattle.story.specs.Calls.{Call, Story, kernel, answerIn}
 use Rattle.story.specs.Demands.{Taken}
 use Rattle.story.specs.Table.{NEXT}
-use Rattle.story.specs.Terms.{object, Did, Takes}
+use Rattle.story.specs.Terms.{object, generation, Did, Takes}
+use Rattle.story.proofs.Handles.{EndsWith, next-ends}
+use Rattle.story.proofs.Lasting.{last-most}
 use Rattle.story.proofs.Made.{next-made}
 use Rattle.story.proofs.Refusals.{kept}
 
@@ -24,18 +30,33 @@ use Rattle.story.proofs.Refusals.{kept}
 pub record Steps (s : State) (tables : List ℕ) (a : Answer) : Type 0 where
   pub state : a .state ≡ stepped s tables
   pub object : getD (a .reply) 1 0 ≡ toRun s
-  pub value₁ : getD (a .reply) 4 0 ≡ handle₁ (coming s)
-  pub value₂ : getD (a .reply) 5 0 ≡ handle₂ s (coming s)
+  pub ends : EndsWith (firstByte (coming s)) (generationIn s (coming s)) (a .reply)
   pub hand : a .state .hand ≡ coming s
   pub reply : a .reply ≡ replyOf (nextSays s tables)
 
 steps-of : (s : State) (z : Areas) (a : Answer) → a ≡ answer (stepped s (z .tables)) (nextSays s (z .tables)) z → Steps s (z .tables) a
 unfolding stepped nextSays replyOf bytes
-steps-of s z a e = record { state = rw e refl; object = rw e refl; value₁ = rw e refl; value₂ = rw e refl; hand = rw e refl; reply = rw e refl }
+steps-of s z a e = rw e (record {
+  state = refl;
+  object = refl;
+  ends = next-ends s (z .tables);
+  hand = refl;
+  reply = refl;
+})
 
 pub next-steps : (h : Story) (c : Call) → Did NEXT h c → Steps (kernel h) (c .areas .tables) (answerIn h c)
 next-steps h c did =
     steps-of (kernel h) (c .areas) _ (next-made (kernel h) (c .command) (c .chart) (c .areas) (did .1) (did .0) .is)
+
+-- the generation of any event, which is at most the last
+event-most : (h : Story) (x : Hand) → generationIn (kernel h) x ≤ lastGeneration
+unfolding generationIn generationAt
+event-most h Nothing = omega arith
+event-most h (Block b) = last-most h b
+event-most h (Timer t g) = omega arith
+
+pub next-generation : (h : Story) (c : Call) → Did NEXT h c → generation h c ≡ generationIn (kernel h) (coming (kernel h))
+next-generation h c did = next-steps h c did .ends .generation (event-most h (coming (kernel h)))
 
 pub next-ready : (h : Story) (c : Call) → Did NEXT h c → Ready (kernel h)
 unfolding nextTests stepTests
@@ -68,7 +89,7 @@ takes h c did =
       in-hand = x .hand;
       left = rw e (changed-here rest (s .boxes) (toRun s - 1) (omega (arith, r .low, r .high)));
       others = λ q l ne. rw e (changed-other rest (s .boxes) (toRun s - 1) (q - 1) (λ n. ne (omega (arith, r .low))));
-      handle = (rw (x .hand) (x .value₁), rw (x .hand) (x .value₂));
+      handle = (rw (x .hand) (x .ends .event), rw (x .hand) (next-generation h c did));
     }
 
 pub taken : Taken

@@ -1,10 +1,11 @@
 -- The theorems, each of the statement of its name in specs/Demands.antt. Over each: what would make it empty, and why it is not. `Meets` is
--- the run of Examples.antt, whose fields say which of its calls meets a hypothesis.
+-- the record of Meets.antt, whose fields say which call of the run of Examples.antt meets a hypothesis.
 use Rattle.story.specs.Demands
 use Rattle.story.proofs.Aside
 use Rattle.story.proofs.Counting
 use Rattle.story.proofs.Marks
 use Rattle.story.proofs.Nested
+use Rattle.story.proofs.Once
 use Rattle.story.proofs.Pairs
 use Rattle.story.proofs.Payloads
 use Rattle.story.proofs.Refusals
@@ -37,9 +38,13 @@ lengths = Payloads.lengths
 pub counted : Demands.Counted
 counted = Counting.counted
 
--- No live block, or none that is freed: `Meets`, held and last, new and gone, one for each side of the sum.
+-- No live block, or none that goes back: `Meets`, held and last, new and gone, one for each side of the sum.
 pub freed : Demands.Freed
 freed = Counting.freed
+
+-- The same, `Meets`, held and back; and none that is retired: the last call of `retires` in Retiring.antt does that.
+pub goesBack : Demands.GoesBack
+goesBack = Counting.goesBack
 
 -- No hypothesis but the block's number. Block 0 goes from generation 0 to 3 in `expected`.
 pub generations : Demands.Generations
@@ -98,6 +103,20 @@ markShown = Marks.markShown
 -- No mark that moves: `Meets`, nears.
 pub onlyTaking : Demands.OnlyTaking
 onlyTaking = Marks.onlyTaking
+
+-- ## Document 02, request 7
+-- No NEW in a story that goes on from one, or none of the same block: `Meets`, news, goes and again. That its generation is then another is
+-- what the theorem says.
+pub handedOnce : Demands.HandedOnce
+handedOnce = Once.handedOnce
+
+-- No block that was handed out and is live no more, or no call that names its handle later: `Meets`, first, goes, back, on and names.
+pub oldRefused : Demands.OldRefused
+oldRefused = Once.oldRefused
+
+-- No retired block: `retires` in Retiring.antt.
+pub staysRetired : Demands.StaysRetired
+staysRetired = Once.staysRetired
 
 -- ## Demand 3
 -- Stories in which only the kernel writes to the tables, with no slot that is loaded: `Meets`, tables, honest and loads.
