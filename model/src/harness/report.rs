@@ -43,6 +43,12 @@ pub fn spaced(bytes: &[u8]) -> String {
     bytes.iter().map(|byte| format!(" {byte}")).collect()
 }
 
+/// The bytes up to the last that is not 0.
+pub fn without_zeros(bytes: &[u8]) -> &[u8] {
+    let last = bytes.iter().rposition(|&byte| byte != 0);
+    &bytes[..last.map_or(0, |last| last + 1)]
+}
+
 /// The class that the model gives each bad chart.
 pub fn write_classes(out: &mut impl Write) -> io::Result<()> {
     for chart in bad::all() {
@@ -86,6 +92,13 @@ mod tests {
     fn spaced_bytes() {
         assert_eq!(spaced(&[]), "");
         assert_eq!(spaced(&[0, 10, 255]), " 0 10 255");
+    }
+
+    #[test]
+    fn bytes_without_zeros() {
+        assert_eq!(without_zeros(&[]), []);
+        assert_eq!(without_zeros(&[0, 0]), []);
+        assert_eq!(without_zeros(&[0, 5, 0, 6, 0]), [0, 5, 0, 6]);
     }
 
     #[test]

@@ -93,13 +93,15 @@ fn found_chart(random: &mut Xorshift, wanted: impl Fn(u32) -> bool) -> Vec<u8> {
 mod tests {
     use super::*;
     use crate::harness::starts::missing_is_the_only_fault;
-    use crate::kernel::command::Command;
+    use crate::kernel::command::{Command, Handle};
     use crate::kernel::numbers::BLOCKS;
     use crate::kernel::replay::{chart_for, replay};
     use crate::kernel::reply::Refusal;
     use crate::kernel::Kernel;
     use std::collections::BTreeSet;
     use std::ops::RangeInclusive;
+
+    const STALE: u8 = Refusal::Stale as u8;
 
     #[test]
     fn the_replies_are_those_of_a_replay() {
@@ -183,6 +185,55 @@ mod tests {
         assert_eq!(seen.len(), 7, "{seen:?}");
     }
 
+    /// The handle that a command names, if it does.
+    fn named(record: &[u8]) -> Option<Handle> {
+        use Command::*;
+        match Command::read(record)? {
+            Post { handle, .. }
+            | PostFront { handle, .. }
+            | Publish { handle }
+            | Hold { handle }
+            | Release { handle }
+            | Drop { handle }
+            | Read { handle } => Some(handle),
+            _ => None,
+        }
+    }
+
+    /// Why a handle is stale: its block is free, or which bytes of the generation differ.
+    fn why_stale(handle: Handle, kernel: &Kernel) -> [bool; 4] {
+        let fitting = kernel.handle(handle.block);
+        let [_, low, middle, high] = handle.bytes();
+        let [_, fitting_low, fitting_middle, fitting_high] = fitting.bytes();
+        [
+            kernel.is_stale(fitting),
+            low != fitting_low,
+            middle != fitting_middle,
+            high != fitting_high,
+        ]
+    }
+
+    #[test]
+    fn handles_are_stale_for_each_reason_alone() {
+        let mut seen = BTreeSet::new();
+        for seed in 0..60 {
+            let trace = Trace::random(seed, 500);
+            let mut program = Program::fresh(trace.charts.clone());
+            for (record, reply) in trace.exchanges() {
+                if let (Some(handle), STALE) = (named(record), reply[0]) {
+                    seen.insert((record[0], why_stale(handle, program.kernel())));
+                }
+                program.answer(record);
+            }
+        }
+        for command in [4, 5, 6, 9, 10, 11, 17] {
+            for place in 0..4 {
+                let alone = std::array::from_fn(|reason| reason == place);
+                assert!(seen.contains(&(command, alone)), "{command} {alone:?}");
+            }
+        }
+    }
+
     /// The blocks of each pool.
     const POOLS: [RangeInclusive<u8>; 3] = [0..=31, 32..=47, 48..=55];
 
@@ -191,7 +242,7 @@ mod tests {
         pool.expect("each block is in a pool")
     }
 
-    /// How many blocks of each pool are free.
+    /// How many blocks of each pool are free; none is retired in a trace, which would have to be far longer.
     fn free_blocks(kernel: &Kernel) -> [usize; 3] {
         let is_free = |block: &u8| kernel.is_stale(kernel.handle(*block));
         POOLS.map(|blocks| blocks.filter(is_free).count())
@@ -211,7 +262,7 @@ mod tests {
                 let before = least;
                 least = std::array::from_fn(|pool| before[pool].min(free[pool]));
                 if let (Some(Command::New { .. }), 0) = (Command::read(record), reply[0]) {
-                    let pool = pool_of(reply[4]);
+                    let pool = pool_of(reply[24]);
                     assert_eq!(usize::from(reply[3]), least[pool]);
                     seen.insert((pool, free[pool].cmp(&before[pool])));
                 }

@@ -3,7 +3,7 @@
 use super::command::Command::{self, *};
 use super::command::Handle;
 use super::mail::{Event, Object};
-use super::numbers::REPLY_BYTES;
+use super::numbers::{HANDLE_BYTES, REPLY_BYTES};
 use super::pool;
 use super::reply::Reply;
 use super::timers::Timer;
@@ -131,10 +131,10 @@ impl Kernel {
         let (used, unused) = payloads[pool::place(block)].split_at_mut(payload.len());
         used.copy_from_slice(payload);
         unused.fill(0);
-        let handle = self.pool.handle(block);
         Reply {
             count: mark,
-            ..Reply::values(handle.block, handle.generation)
+            handle: self.pool.handle(block).bytes(),
+            ..Reply::default()
         }
     }
 
@@ -159,7 +159,7 @@ impl Kernel {
             object: p,
             outcome: row.outcome,
             signal: self.signal_of(event),
-            values: self.handle_bytes(event),
+            handle: self.handle_bytes(event),
             ..Reply::default()
         };
         stepped.with_actions(&row.actions)
@@ -230,13 +230,10 @@ impl Kernel {
         entries
     }
 
-    fn handle_bytes(&self, event: Event) -> [u8; 2] {
+    fn handle_bytes(&self, event: Event) -> [u8; HANDLE_BYTES] {
         match event {
-            Event::Block(block) => {
-                let handle = self.pool.handle(block);
-                [handle.block, handle.generation]
-            }
-            Event::Timer { timer, .. } => [128 + timer, 0],
+            Event::Block(block) => self.pool.handle(block).bytes(),
+            Event::Timer { timer, .. } => [128 + timer, 0, 0, 0],
         }
     }
 

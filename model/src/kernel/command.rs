@@ -1,6 +1,6 @@
 //! The command records.
 
-use super::numbers::RECORD_BYTES;
+use super::numbers::{HANDLE_BYTES, RECORD_BYTES};
 
 /// Number and arguments, before the payload.
 const HEAD_BYTES: usize = 8;
@@ -34,7 +34,22 @@ pub const COMMAND_NAMES: [&str; 21] = [
 #[derive(Clone, Copy, Debug, PartialEq, Eq)]
 pub struct Handle {
     pub block: u8,
-    pub generation: u8,
+    /// Of 24 bits.
+    pub generation: u32,
+}
+
+impl Handle {
+    pub fn from_bytes([block, low, middle, high]: [u8; HANDLE_BYTES]) -> Self {
+        Handle {
+            block,
+            generation: u32::from_le_bytes([low, middle, high, 0]),
+        }
+    }
+
+    pub fn bytes(self) -> [u8; HANDLE_BYTES] {
+        let [low, middle, high, _] = self.generation.to_le_bytes();
+        [self.block, low, middle, high]
+    }
 }
 
 /// A record of a known number whose unused bytes are 0; its arguments may be out of range.
@@ -148,14 +163,14 @@ impl Command {
             Load { slot } => [1, slot, 0, 0, 0, 0, 0, 0],
             Start { p, slot, depth } => [2, p, slot, depth, 0, 0, 0, 0],
             New { signal, size, .. } => [3, signal, size, 0, 0, 0, 0, 0],
-            Post { handle, p, margin } => [4, handle.block, handle.generation, p, margin, 0, 0, 0],
-            PostFront { handle, p } => [5, handle.block, handle.generation, p, 0, 0, 0, 0],
-            Publish { handle } => with_handle(6, handle),
+            Post { handle, p, margin } => with_handle(4, handle, [p, margin, 0]),
+            PostFront { handle, p } => with_handle(5, handle, [p, 0, 0]),
+            Publish { handle } => with_handle(6, handle, [0; 3]),
             Subscribe { p, signal } => [7, p, signal, 0, 0, 0, 0, 0],
             Unsubscribe { p, signal } => [8, p, signal, 0, 0, 0, 0, 0],
-            Hold { handle } => with_handle(9, handle),
-            Release { handle } => with_handle(10, handle),
-            Drop { handle } => with_handle(11, handle),
+            Hold { handle } => with_handle(9, handle, [0; 3]),
+            Release { handle } => with_handle(10, handle, [0; 3]),
+            Drop { handle } => with_handle(11, handle, [0; 3]),
             Next => [12, 0, 0, 0, 0, 0, 0, 0],
             End => [13, 0, 0, 0, 0, 0, 0, 0],
             Arm {
@@ -180,7 +195,7 @@ impl Command {
             }
             Disarm { timer } => [15, timer, 0, 0, 0, 0, 0, 0],
             Tick => [16, 0, 0, 0, 0, 0, 0, 0],
-            Read { handle } => with_handle(17, handle),
+            Read { handle } => with_handle(17, handle, [0; 3]),
             Drain { budget } => [18, budget, 0, 0, 0, 0, 0, 0],
             Defer { q } => [19, q, 0, 0, 0, 0, 0, 0],
             Recall { q, p } => [20, q, p, 0, 0, 0, 0, 0],
@@ -189,17 +204,15 @@ impl Command {
     }
 }
 
-/// The head of a command whose only argument is a handle.
-fn with_handle(number: u8, handle: Handle) -> [u8; HEAD_BYTES] {
-    [number, handle.block, handle.generation, 0, 0, 0, 0, 0]
+/// The head of a command whose first argument is a handle.
+fn with_handle(number: u8, handle: Handle, [a, b, c]: [u8; 3]) -> [u8; HEAD_BYTES] {
+    let [block, low, middle, high] = handle.bytes();
+    [number, block, low, middle, high, a, b, c]
 }
 
 /// The command of a head; each 0 in a pattern is an unused argument.
 fn read_head(head: &[u8], payload: &[u8]) -> Option<Command> {
-    let handle = Handle {
-        block: head[1],
-        generation: head[2],
-    };
+    let handle = Handle::from_bytes([head[1], head[2], head[3], head[4]]);
     Some(match *head {
         [1, slot, 0, 0, 0, 0, 0, 0] => Load { slot },
         [2, p, slot, depth, 0, 0, 0, 0] => Start { p, slot, depth },
@@ -208,14 +221,14 @@ fn read_head(head: &[u8], payload: &[u8]) -> Option<Command> {
             size,
             payload: payload.try_into().ok()?,
         },
-        [4, _, _, p, margin, 0, 0, 0] => Post { handle, p, margin },
-        [5, _, _, p, 0, 0, 0, 0] => PostFront { handle, p },
-        [6, _, _, 0, 0, 0, 0, 0] => Publish { handle },
+        [4, _, _, _, _, p, margin, 0] => Post { handle, p, margin },
+        [5, _, _, _, _, p, 0, 0] => PostFront { handle, p },
+        [6, _, _, _, _, 0, 0, 0] => Publish { handle },
         [7, p, signal, 0, 0, 0, 0, 0] => Subscribe { p, signal },
         [8, p, signal, 0, 0, 0, 0, 0] => Unsubscribe { p, signal },
-        [9, _, _, 0, 0, 0, 0, 0] => Hold { handle },
-        [10, _, _, 0, 0, 0, 0, 0] => Release { handle },
-        [11, _, _, 0, 0, 0, 0, 0] => Drop { handle },
+        [9, _, _, _, _, 0, 0, 0] => Hold { handle },
+        [10, _, _, _, _, 0, 0, 0] => Release { handle },
+        [11, _, _, _, _, 0, 0, 0] => Drop { handle },
         [12, 0, 0, 0, 0, 0, 0, 0] => Next,
         [13, 0, 0, 0, 0, 0, 0, 0] => End,
         [14, timer, p, signal, ticks_low, ticks_high, interval_low, interval_high] => Arm {
@@ -227,7 +240,7 @@ fn read_head(head: &[u8], payload: &[u8]) -> Option<Command> {
         },
         [15, timer, 0, 0, 0, 0, 0, 0] => Disarm { timer },
         [16, 0, 0, 0, 0, 0, 0, 0] => Tick,
-        [17, _, _, 0, 0, 0, 0, 0] => Read { handle },
+        [17, _, _, _, _, 0, 0, 0] => Read { handle },
         [18, budget, 0, 0, 0, 0, 0, 0] => Drain { budget },
         [19, q, 0, 0, 0, 0, 0, 0] => Defer { q },
         [20, q, p, 0, 0, 0, 0, 0] => Recall { q, p },
@@ -250,7 +263,7 @@ mod tests {
     /// A record with as many arguments as its command uses, none of them 0.
     fn with_all_arguments(number: u8) -> [u8; RECORD_BYTES] {
         let used = [
-            1, 3, 2, 4, 3, 2, 2, 2, 2, 2, 2, 0, 0, 7, 1, 0, 2, 1, 1, 2, 1,
+            1, 3, 2, 6, 5, 4, 2, 2, 4, 4, 4, 0, 0, 7, 1, 0, 4, 1, 1, 2, 1,
         ];
         let mut record = record(&[number]);
         record[1..=used[usize::from(number) - 1]].fill(1);
@@ -261,7 +274,7 @@ mod tests {
     fn arguments_stand_in_the_documents_order() {
         let handle = Handle {
             block: 7,
-            generation: 8,
+            generation: 0x0a_0908,
         };
         let start = Start {
             p: 1,
@@ -270,8 +283,8 @@ mod tests {
         };
         let post = Post {
             handle,
-            p: 9,
-            margin: 10,
+            p: 11,
+            margin: 12,
         };
         let arm = Arm {
             timer: 1,
@@ -281,20 +294,45 @@ mod tests {
             interval: 0x0706,
         };
         assert_eq!(Command::read(&record(&[2, 1, 2, 3])), Some(start));
-        assert_eq!(Command::read(&record(&[4, 7, 8, 9, 10])), Some(post));
         assert_eq!(
-            Command::read(&record(&[5, 7, 8, 9])),
-            Some(PostFront { handle, p: 9 })
+            Command::read(&record(&[4, 7, 8, 9, 10, 11, 12])),
+            Some(post)
+        );
+        assert_eq!(
+            Command::read(&record(&[5, 7, 8, 9, 10, 11])),
+            Some(PostFront { handle, p: 11 })
         );
         assert_eq!(
             Command::read(&record(&[14, 1, 2, 3, 4, 5, 6, 7])),
             Some(arm)
         );
-        assert_eq!(Command::read(&record(&[17, 7, 8])), Some(Read { handle }));
+        assert_eq!(
+            Command::read(&record(&[17, 7, 8, 9, 10])),
+            Some(Read { handle })
+        );
         assert_eq!(
             Command::read(&record(&[20, 5, 9])),
             Some(Recall { q: 5, p: 9 })
         );
+    }
+
+    #[test]
+    fn a_handle_has_four_bytes() {
+        for (generation, bytes) in [
+            (0, [0, 0, 0]),
+            (255, [255, 0, 0]),
+            (256, [0, 1, 0]),
+            (65_535, [255, 255, 0]),
+            (65_536, [0, 0, 1]),
+            (70_000, [112, 17, 1]),
+            (16_777_215, [255, 255, 255]),
+        ] {
+            let block = 55;
+            let [low, middle, high] = bytes;
+            let handle = Handle { block, generation };
+            assert_eq!(handle.bytes(), [block, low, middle, high]);
+            assert_eq!(Handle::from_bytes([block, low, middle, high]), handle);
+        }
     }
 
     #[test]

@@ -146,7 +146,7 @@ impl Kernel {
         match event {
             Event::Block(block) => {
                 let content = self.pool.content(block);
-                content.expect("a queued block is not free").signal
+                content.expect("a queued block is taken").signal
             }
             Event::Timer { signal, .. } => signal,
         }
@@ -221,7 +221,7 @@ impl Kernel {
         self.pool.content(block).map_or(0, |content| content.holds)
     }
 
-    /// The handle that fits a block now, be it free or not.
+    /// The handle with the generation that a block has now, be it taken or not.
     pub fn handle(&self, block: u8) -> Handle {
         self.pool.handle(block)
     }

@@ -10,6 +10,8 @@ pub const SIGNALS: RangeInclusive<u8> = chart::FIRST_SIGNAL..=chart::LAST_SIGNAL
 pub const TIMERS: RangeInclusive<u8> = 0..=15;
 pub const SLOTS: RangeInclusive<u8> = 0..=3;
 pub const BLOCKS: RangeInclusive<u8> = 0..=55;
+/// A block that is freed with this generation is retired.
+pub const LAST_GENERATION: u32 = 16_777_215;
 pub const SIZES: RangeInclusive<u8> = 0..=64;
 pub const MARGINS: RangeInclusive<u8> = 0..=15;
 pub const MOST_HOLDS: u8 = 15;
@@ -19,8 +21,11 @@ pub const MOST_SET_ASIDE: u8 = 8;
 
 pub const PAYLOADS_BYTES: usize = 1_536;
 pub const TABLES_BYTES: usize = 64_608;
-pub const LOG_BYTES: usize = 6_120;
+pub const LOG_BYTES: usize = 7_140;
 
 /// A command record: number, seven arguments, 64 payload bytes.
 pub const RECORD_BYTES: usize = 72;
-pub const REPLY_BYTES: usize = 24;
+/// A reply record: 24 bytes, then a handle.
+pub const REPLY_BYTES: usize = 28;
+/// A handle: the block, then its generation, low byte first.
+pub const HANDLE_BYTES: usize = 4;

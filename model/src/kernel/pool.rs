@@ -1,7 +1,8 @@
-//! The pools of blocks: which are free, how few were, their generations, and what the others hold.
+//! The pools of blocks: which are free, how few were, their generations, what the taken ones hold, and
+//! which are retired.
 
 use super::command::Handle;
-use super::numbers::BLOCKS;
+use super::numbers::{BLOCKS, LAST_GENERATION};
 use std::ops::{Range, RangeInclusive};
 
 /// The blocks of each pool and how many bytes each of them holds, smallest first.
@@ -15,11 +16,19 @@ pub struct Content {
     pub holds: u8,
 }
 
-/// A block is free while it has no content.
+/// A taken block is new or counted: its references tell.
+#[derive(Clone, Debug, Default, PartialEq, Eq)]
+enum State {
+    #[default]
+    Free,
+    Taken(Content),
+    Retired,
+}
+
 #[derive(Clone, Debug, Default, PartialEq, Eq)]
 struct Block {
-    generation: u8,
-    content: Option<Content>,
+    generation: u32,
+    state: State,
 }
 
 #[derive(Clone, Debug, PartialEq, Eq)]
@@ -40,13 +49,13 @@ impl Pool {
     /// The lowest free block of the first pool whose blocks are large enough.
     pub fn lowest_free(&self, size: u8) -> Option<u8> {
         let (blocks, _) = POOLS.iter().find(|(_, bytes)| *bytes >= size)?;
-        blocks.clone().find(|&block| self.content(block).is_none())
+        blocks.clone().find(|&block| self.is_free(block))
     }
 
     /// Puts a new event in a free block; the mark of the block's pool, this block counted as taken.
     /// The generation moved when the block was freed.
     pub fn fill(&mut self, block: u8, signal: u8, size: u8) -> u8 {
-        self.block_mut(block).content = Some(Content {
+        self.block_mut(block).state = State::Taken(Content {
             signal,
             size,
             holds: 0,
@@ -64,28 +73,43 @@ impl Pool {
     /// Counted anew each time, so that no counter can go astray.
     fn free_blocks(&self, pool: usize) -> u8 {
         let (blocks, _) = POOLS[pool].clone();
-        let free = blocks.filter(|&block| self.content(block).is_none());
+        let free = blocks.filter(|&block| self.is_free(block));
         free.count() as u8
     }
 
+    /// A retired block is not free: it counts as taken.
+    fn is_free(&self, block: u8) -> bool {
+        self.blocks[usize::from(block)].state == State::Free
+    }
+
+    /// Gives a taken block back with the next generation; where there is none, it is retired and keeps its own.
     pub fn free(&mut self, block: u8) {
         let freed = self.block_mut(block);
-        freed.content = None;
-        freed.generation = freed.generation.wrapping_add(1);
+        if freed.generation == LAST_GENERATION {
+            freed.state = State::Retired;
+        } else {
+            freed.state = State::Free;
+            freed.generation += 1;
+        }
     }
 
-    /// What the block holds; nothing if it is free or there is no such block.
+    /// What the block holds; nothing if it is not taken or there is no such block.
     pub fn content(&self, block: u8) -> Option<&Content> {
-        self.blocks.get(usize::from(block))?.content.as_ref()
+        match &self.blocks.get(usize::from(block))?.state {
+            State::Taken(content) => Some(content),
+            State::Free | State::Retired => None,
+        }
     }
 
-    /// What a block that is not free holds.
+    /// What a taken block holds.
     pub fn content_mut(&mut self, block: u8) -> &mut Content {
-        let content = &mut self.block_mut(block).content;
-        content.as_mut().expect("the block is not free")
+        match &mut self.block_mut(block).state {
+            State::Taken(content) => content,
+            State::Free | State::Retired => unreachable!("the block is taken"),
+        }
     }
 
-    /// The handle that fits the block now.
+    /// The handle with the generation that the block has now, be it taken or not.
     pub fn handle(&self, block: u8) -> Handle {
         Handle {
             block,
@@ -93,9 +117,15 @@ impl Pool {
         }
     }
 
-    /// Whether the block is free or the generation differs; so for absent blocks too.
+    /// Whether the block is free or retired, or the generation differs; so for absent blocks too.
     pub fn is_stale(&self, handle: Handle) -> bool {
         self.content(handle.block).is_none() || self.handle(handle.block) != handle
+    }
+
+    /// Spares a test millions of frees.
+    #[cfg(test)]
+    pub fn set_generation(&mut self, block: u8, generation: u32) {
+        self.block_mut(block).generation = generation;
     }
 
     fn block_mut(&mut self, block: u8) -> &mut Block {
@@ -187,15 +217,94 @@ mod tests {
         assert_eq!(pool.fill(0, 4, 16), 31);
     }
 
+    /// Takes the block, which has to be the lowest free one of its pool, and frees it; the handle that it had.
+    fn live_and_die(pool: &mut Pool, block: u8) -> Handle {
+        let (_, bytes) = POOLS[pool_of(block)];
+        assert_eq!(pool.lowest_free(bytes), Some(block));
+        pool.fill(block, 4, bytes);
+        let handle = pool.handle(block);
+        assert!(!pool.is_stale(handle));
+        pool.free(block);
+        assert!(pool.is_stale(handle));
+        handle
+    }
+
     #[test]
-    fn the_generation_goes_up_at_each_free_and_wraps() {
+    fn the_generation_goes_up_at_each_free() {
         let mut pool = Pool::fresh();
-        for generation in (0..=255).chain([0]) {
-            assert_eq!(pool.handle(9).generation, generation);
-            assert!(pool.is_stale(pool.handle(9)));
+        for generation in 0..300 {
+            assert_eq!(pool.handle(0).generation, generation);
+            assert!(pool.is_stale(pool.handle(0)));
+            assert_eq!(live_and_die(&mut pool, 0).generation, generation);
+        }
+    }
+
+    /// Block 48 is handed out once with each generation from this one on, and after the last it is retired.
+    fn hand_out_all(first: u32) {
+        let mut pool = Pool::fresh();
+        pool.set_generation(48, first);
+        for generation in first..=LAST_GENERATION {
+            assert_eq!(live_and_die(&mut pool, 48).generation, generation);
+        }
+        assert!(!pool.is_free(48));
+        assert_eq!(pool.handle(48).generation, LAST_GENERATION);
+        assert!(pool.is_stale(pool.handle(48)));
+        assert_eq!(pool.lowest_free(64), Some(49));
+    }
+
+    #[test]
+    fn the_last_handles_of_a_block_are_handed_out_once() {
+        hand_out_all(LAST_GENERATION);
+        hand_out_all(LAST_GENERATION - 1);
+        hand_out_all(LAST_GENERATION - 300);
+    }
+
+    #[test]
+    #[cfg_attr(
+        debug_assertions,
+        ignore = "sixteen million lives are quick only in an optimised build"
+    )]
+    fn all_handles_of_a_block_are_handed_out_once() {
+        hand_out_all(0);
+    }
+
+    #[test]
+    fn a_retired_block_is_stale_with_every_generation() {
+        let mut pool = Pool::fresh();
+        pool.set_generation(7, LAST_GENERATION);
+        pool.fill(7, 4, 1);
+        pool.free(7);
+        for generation in [0, 1, 255, 65_535, LAST_GENERATION - 1, LAST_GENERATION] {
+            let block = 7;
+            assert!(pool.is_stale(Handle { block, generation }));
+        }
+    }
+
+    #[test]
+    fn a_retired_block_counts_as_taken() {
+        let mut pool = Pool::fresh();
+        for block in 48..=55 {
+            pool.set_generation(block, LAST_GENERATION);
+            assert_eq!(pool.fill(block, 4, 64), 55 - block);
+            pool.free(block);
+        }
+        assert_eq!(pool.free_blocks(2), 0);
+        assert_eq!(pool.lowest_free(64), None);
+        assert_eq!(pool.lowest_free(32), Some(32));
+    }
+
+    #[test]
+    fn each_byte_of_a_generation_counts() {
+        let mut pool = Pool::fresh();
+        for fitting in [0, 0x01_0203, 0x80_8080, LAST_GENERATION] {
+            pool.set_generation(9, fitting);
             pool.fill(9, 4, 1);
-            assert!(!pool.is_stale(pool.handle(9)));
-            pool.free(9);
+            let is_stale = |generation| {
+                let block = 9;
+                pool.is_stale(Handle { block, generation })
+            };
+            assert!(!is_stale(fitting));
+            assert!((0..24).all(|bit| is_stale(fitting ^ 1 << bit)));
         }
     }
 }

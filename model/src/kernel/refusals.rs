@@ -43,6 +43,7 @@ impl Kernel {
                 (Refusal::Range, !SIZES.contains(&size)),
                 (Refusal::Dry, self.pool.lowest_free(size).is_none()),
             ],
+            // Here and below every generation is in range.
             Post { handle, p, margin } => vec![
                 (Refusal::Range, !BLOCKS.contains(&handle.block)),
                 (Refusal::Range, !PRIORITIES.contains(&p)),

@@ -1,6 +1,6 @@
 //! The reply record.
 
-use super::numbers::REPLY_BYTES;
+use super::numbers::{HANDLE_BYTES, REPLY_BYTES};
 use crate::chart::MOST_ACTIONS;
 
 /// The answers' names by number.
@@ -41,6 +41,8 @@ pub struct Reply {
     pub values: [u8; 2],
     /// READ shows payload bytes here.
     pub actions: Vec<u8>,
+    /// Of the event, in NEW's and NEXT's.
+    pub handle: [u8; HANDLE_BYTES],
 }
 
 impl Reply {
@@ -85,6 +87,7 @@ impl Reply {
         bytes[3] = self.count;
         bytes[4..6].copy_from_slice(&self.values);
         bytes[6..6 + self.actions.len()].copy_from_slice(&self.actions);
+        bytes[REPLY_BYTES - HANDLE_BYTES..].copy_from_slice(&self.handle);
         bytes
     }
 }
@@ -103,19 +106,24 @@ mod tests {
             count: 32,
             values: [7, 8],
             actions: Vec::new(),
+            handle: [55, 9, 10, 11],
         };
         let mut expected = [0; REPLY_BYTES];
         expected[..6].copy_from_slice(&[0, 16, 95, 32, 7, 8]);
+        expected[24..].copy_from_slice(&[55, 9, 10, 11]);
         assert_eq!(reply.bytes(), expected);
         expected[..9].copy_from_slice(&[0, 16, 95, 3, 7, 8, 1, 2, 3]);
-        assert_eq!(reply.with_actions(&[1, 2, 3]).bytes(), expected);
+        assert_eq!(reply.clone().with_actions(&[1, 2, 3]).bytes(), expected);
+        expected[3] = 18;
+        expected[6..24].fill(255);
+        assert_eq!(reply.with_actions(&[255; 18]).bytes(), expected);
     }
 
     #[test]
     fn a_refusal_is_its_number_and_zeros() {
         let bytes = Reply::refused(Refusal::Table).bytes();
         assert_eq!(bytes[0], 15);
-        assert_eq!(bytes[1..], [0; 23]);
+        assert_eq!(bytes[1..], [0; 27]);
     }
 
     #[test]

@@ -75,7 +75,7 @@ mod tests {
     /// Two hundred frames in a row.
     fn stream() -> Vec<u8> {
         (0..200)
-            .flat_map(|number| sent(number, 1, &[number; 24]))
+            .flat_map(|number| sent(number, 1, &[number; 28]))
             .collect()
     }
 

@@ -33,7 +33,7 @@ fn frame_line(frame: &Frame) -> String {
 fn told(frame: &Frame) -> String {
     let data = &frame.data;
     match data[..].try_into() {
-        Ok(reply) => words(frame.record, reply),
+        Ok(reply) => words(reply),
         Err(_) if data.is_empty() => String::from("no reply, no data"),
         Err(_) => format!("no reply, data:{}", spaced(data)),
     }
@@ -77,7 +77,7 @@ mod tests {
     fn a_whole_night() {
         let expected = "  0 LOAD         DONE  values 5 0
   1 START        DONE  object 9  transition  count 4  actions 10 11 13 21
-  2 NEW          DONE  values 0 0  least free 31
+  2 NEW          DONE  event 0 0  least free 31
   3 NEXT         IDLE
 frames: 4, gaps: 0
 ";
@@ -90,7 +90,7 @@ frames: 4, gaps: 0
         let stream = [&night[0][..], &night[2], &night[3][..5]].concat();
         let expected = "  0 LOAD         DONE  values 5 0
 something is missing here
-  2 NEW          DONE  values 0 0  least free 31
+  2 NEW          DONE  event 0 0  least free 31
 the end is torn off
 frames: 2, gaps: 1
 ";
@@ -109,17 +109,17 @@ frames: 2, gaps: 1
         let stream = [
             sent(254, 8, &[]),
             sent(255, 0, &[7]),
-            sent(0, 22, &[1; 23]),
-            sent(1, 255, &[1; 24]),
-            sent(9, 21, &[0; 25]),
+            sent(0, 22, &[1; 27]),
+            sent(1, 255, &[1; 28]),
+            sent(9, 21, &[0; 29]),
         ]
         .concat();
         let expected = "254 UNSUBSCRIBE  no reply, no data
 255 command 0    no reply, data: 7
-  0 command 22   no reply, data: 1 1 1 1 1 1 1 1 1 1 1 1 1 1 1 1 1 1 1 1 1 1 1
-  1 command 255  FORM  object 1  ignored  signal 1  event 1 1  count 1  actions 1
+  0 command 22   no reply, data: 1 1 1 1 1 1 1 1 1 1 1 1 1 1 1 1 1 1 1 1 1 1 1 1 1 1 1
+  1 command 255  FORM  object 1  ignored  signal 1  event 1 65793  count 1  actions 1
 something is missing here
-  9 FLUSH        no reply, data: 0 0 0 0 0 0 0 0 0 0 0 0 0 0 0 0 0 0 0 0 0 0 0 0 0
+  9 FLUSH        no reply, data: 0 0 0 0 0 0 0 0 0 0 0 0 0 0 0 0 0 0 0 0 0 0 0 0 0 0 0 0 0
 frames: 5, gaps: 1
 ";
         assert_eq!(lines(&stream), expected);

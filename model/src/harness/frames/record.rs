@@ -48,7 +48,7 @@ mod tests {
         assert_eq!(frames.len(), 1);
         let frame = &frames[0].frame;
         assert_eq!((frame.number, frame.record), (0, 12));
-        assert_eq!(frame.data, [&[1][..], &[0; 23]].concat());
+        assert_eq!(frame.data, [&[1][..], &[0; 27]].concat());
         assert_eq!(frames_of(&[], &Charts::default()), []);
     }
 }

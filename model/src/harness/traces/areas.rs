@@ -5,8 +5,9 @@
 //! how a call is written for it to read, and what its line for a call has.
 
 use super::super::random::Xorshift;
-use super::super::report::{spaced, table_sum};
+use super::super::report::{table_sum, without_zeros};
 use super::pick::Picker;
+use super::show::told_bytes;
 use super::{random_chart, random_charts};
 use crate::chart::{FIRST_SIGNAL, LAST_SIGNAL, MOST_ACTIONS, ROW_BYTES, SLOT_BYTES};
 use crate::kernel::numbers::*;
@@ -253,24 +254,16 @@ fn sent(call: &Call, is_fresh: bool, charts: &Charts) -> Vec<u8> {
 }
 
 /// The line of a call. The bench is that after it.
-fn line(call: &Call, reply: &[u8], bench: &Bench) -> String {
-    let told = without_zeros(reply);
-    let told = &reply[..told.len().max(1)];
+fn line(call: &Call, reply: &[u8; REPLY_BYTES], bench: &Bench) -> String {
     let areas = [&bench.payloads, &bench.tables, &bench.log];
     let [payloads, tables, log] = areas.map(|area| table_sum(area));
     let part = &bench.payloads[bench.kernel.read_part(&call.record, call.lengths[0])];
     format!(
         "{} payloads {payloads} tables {tables} log {log} part {} sum {}\n",
-        spaced(told),
+        told_bytes(reply),
         part.len(),
         table_sum(part),
     )
-}
-
-/// The bytes up to the last that is not 0.
-fn without_zeros(bytes: &[u8]) -> &[u8] {
-    let last = bytes.iter().rposition(|&byte| byte != 0);
-    &bytes[..last.map_or(0, |last| last + 1)]
 }
 
 #[cfg(test)]

@@ -44,26 +44,28 @@ const fn refused_chart(name: &'static str, shows: fn(&[u8]) -> bool) -> Case {
     }
 }
 
-/// What good traces come to besides every answer; NEW's mark is byte 3, values are bytes 4 and 5.
-const CASES: [Case; 54] = [
+/// What good traces come to besides every answer; NEW's mark is byte 3, values are bytes 4 and 5, block and generation of
+/// an event bytes 24 to 27.
+const CASES: [Case; 56] = [
     refused_chart("class 1", |reply| reply[4] == 1),
     refused_chart("class 2", |reply| reply[4] == 2),
     refused_chart("class 3", |reply| reply[4] == 3),
     refused_chart("class 4", |reply| reply[4] == 4),
-    done("NEW", "block of 16 bytes", |reply| reply[4] < 32),
+    done("NEW", "block of 16 bytes", |reply| reply[24] < 32),
     done("NEW", "block of 32 bytes", |reply| {
-        (32..48).contains(&reply[4])
+        (32..48).contains(&reply[24])
     }),
-    done("NEW", "block of 64 bytes", |reply| reply[4] >= 48),
-    done("NEW", "block used before", |reply| reply[5] > 0),
+    done("NEW", "block of 64 bytes", |reply| reply[24] >= 48),
+    done("NEW", "block used before", |reply| reply[25] > 0),
+    done("NEW", "generation above 255", |reply| reply[26] > 0),
     done("NEW", "mark 0, block of 16 bytes", |reply| {
-        reply[3] == 0 && reply[4] < 32
+        reply[3] == 0 && reply[24] < 32
     }),
     done("NEW", "mark 0, block of 32 bytes", |reply| {
-        reply[3] == 0 && (32..48).contains(&reply[4])
+        reply[3] == 0 && (32..48).contains(&reply[24])
     }),
     done("NEW", "mark 0, block of 64 bytes", |reply| {
-        reply[3] == 0 && reply[4] >= 48
+        reply[3] == 0 && reply[24] >= 48
     }),
     done("POST", "into an empty mailbox", |reply| reply[4] == 1),
     done("POST", "behind others", |reply| reply[4] > 1),
@@ -85,8 +87,9 @@ const CASES: [Case; 54] = [
     done("RELEASE", "freed", |reply| reply[5] == 1),
     done("RELEASE", "last hold, kept", |reply| reply[4..6] == [0, 0]),
     done("RELEASE", "other holds left", |reply| reply[4] > 0),
-    done("NEXT", "a block", |reply| reply[4] < 128),
-    done("NEXT", "a timer", |reply| reply[4] >= 128),
+    done("NEXT", "a block", |reply| reply[24] < 128),
+    done("NEXT", "a timer", |reply| reply[24] >= 128),
+    done("NEXT", "generation above 255", |reply| reply[26] > 0),
     done("NEXT", "ignored", |reply| reply[2] / 32 == 0),
     done("NEXT", "internal", |reply| reply[2] / 32 == 1),
     done("NEXT", "transition", |reply| reply[2] / 32 == 2),
@@ -254,7 +257,8 @@ mod tests {
 
     #[test]
     fn traces_see_all_that_a_replay_can_show() {
-        let coverage = Coverage::of_traces(0, 60, 500);
+        // Long enough to go on behind the longest opening.
+        let coverage = Coverage::of_traces(0, 120, 700);
         for Unseen { command, answer } in coverage.unseen() {
             assert!(why_not_in_a_replay(answer).is_some(), "{command} {answer}");
         }

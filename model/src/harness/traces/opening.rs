@@ -15,17 +15,14 @@ pub fn random_opening(random: &mut Xorshift, charts: &Charts, signal: u8) -> Vec
             let drained = [Command::End, Command::Drain { budget: 255 }];
             [pile(slot, signal), drained.to_vec()].concat()
         }
-        (6..8, _) => wrap(signal),
+        (6..10, _) => many_lives(signal),
         _ => Vec::new(),
     }
 }
 
 /// One event in all 256 mailbox places, in all 64 side places, in hand, and held 15 times.
 fn pile(slot: u8, signal: u8) -> Vec<Command> {
-    let handle = Handle {
-        block: 0,
-        generation: 0,
-    };
+    let handle = of_block_0(0);
     let mut commands = vec![Command::Load { slot }, new_event(signal)];
     for p in PRIORITIES {
         let depth = *DEPTHS.end();
@@ -46,16 +43,32 @@ fn pile(slot: u8, signal: u8) -> Vec<Command> {
     commands
 }
 
-/// One block freed 256 times, so that its generation is 0 again.
-fn wrap(signal: u8) -> Vec<Command> {
+/// One block freed 256 times and taken once more, so that its generation has a second byte; then each command that
+/// names the handle of its first life, whose low byte fits.
+fn many_lives(signal: u8) -> Vec<Command> {
     let filled_and_freed = |generation| {
-        let handle = Handle {
-            block: 0,
-            generation,
-        };
+        let handle = of_block_0(generation);
         [new_event(signal), Command::Drop { handle }]
     };
-    (0..=255).flat_map(filled_and_freed).collect()
+    let mut commands: Vec<Command> = (0..=255).flat_map(filled_and_freed).collect();
+    commands.push(new_event(signal));
+    let handle = of_block_0(0);
+    let (p, margin) = (*PRIORITIES.start(), 0);
+    commands.extend([
+        Command::Post { handle, p, margin },
+        Command::PostFront { handle, p },
+        Command::Publish { handle },
+        Command::Hold { handle },
+        Command::Release { handle },
+        Command::Drop { handle },
+        Command::Read { handle },
+    ]);
+    commands
+}
+
+fn of_block_0(generation: u32) -> Handle {
+    let block = 0;
+    Handle { block, generation }
 }
 
 /// A new event that goes to a block of the smallest kind.
@@ -72,25 +85,35 @@ mod tests {
     use super::*;
     use crate::harness::good::shift;
     use crate::kernel::replay::Program;
+    use crate::kernel::reply::Refusal;
 
-    /// The kernel after these commands, all of them done.
-    fn program_after(commands: &[Command]) -> Program {
-        let mut program = Program::fresh([shift(), Vec::new(), Vec::new(), Vec::new()]);
+    /// Sends these commands, to each of which this is the answer.
+    fn send_all(program: &mut Program, commands: &[Command], answer: u8) {
         for command in commands {
-            assert_eq!(program.answer(&command.record())[0], 0, "{command:?}");
+            assert_eq!(program.answer(&command.record())[0], answer, "{command:?}");
         }
-        program
+    }
+
+    fn fresh() -> Program {
+        Program::fresh([shift(), Vec::new(), Vec::new(), Vec::new()])
     }
 
     #[test]
     fn a_pile_has_all_references_that_an_event_can_have() {
-        let program = program_after(&pile(0, 31));
+        let mut program = fresh();
+        send_all(&mut program, &pile(0, 31), 0);
         assert_eq!(program.kernel().references(0), 256 + 64 + 1 + 15);
     }
 
     #[test]
-    fn a_wrap_makes_the_first_handle_fit_again() {
-        let program = program_after(&[wrap(31), vec![new_event(31)]].concat());
-        assert_eq!(program.kernel().handle(0).generation, 0);
+    fn after_many_lives_the_first_handle_is_stale() {
+        let mut program = fresh();
+        let commands = many_lives(31);
+        // 256 times NEW and DROP, and NEW.
+        let (lives, late) = commands.split_at(2 * 256 + 1);
+        assert_eq!(late.len(), 7);
+        send_all(&mut program, lives, 0);
+        assert_eq!(program.kernel().handle(0).generation, 256);
+        send_all(&mut program, late, Refusal::Stale as u8);
     }
 }

@@ -438,22 +438,30 @@ impl Picker {
 
     /// A handle out of range, or one that is stale most of the time.
     fn wrong_handle(&mut self, kernel: &Kernel) -> Handle {
-        let block = self.any(BLOCKS);
-        let fitting = kernel.handle(block).generation;
-        match self.random.below(4) {
+        let block = self.mostly(BLOCKS, |block| is_live(kernel, block));
+        let fitting = kernel.handle(block);
+        match self.random.below(6) {
             0 => Handle {
                 block: self.random.pick(&[56, 64, 255]),
-                generation: fitting,
+                ..fitting
             },
-            1 => Handle {
-                block,
-                generation: self.random.byte(),
+            // Most likely that of a free block.
+            1 => kernel.handle(self.any(BLOCKS)),
+            2 => Handle {
+                generation: before(fitting.generation),
+                ..fitting
             },
-            _ => Handle {
-                block,
-                generation: fitting.wrapping_sub(1),
-            },
+            _ => self.with_another_byte(fitting),
         }
+    }
+
+    /// The handle with another byte at one place of its generation.
+    fn with_another_byte(&mut self, handle: Handle) -> Handle {
+        let mut bytes = handle.bytes();
+        let place = 1 + self.random.below(3);
+        let bits = [1, 128, 1 + self.random.below(255) as u8];
+        bytes[place] ^= self.random.pick(&bits);
+        Handle::from_bytes(bytes)
     }
 
     fn any(&mut self, range: RangeInclusive<u8>) -> u8 {
@@ -481,10 +489,18 @@ impl Picker {
     }
 }
 
-/// The blocks that are not free.
+/// Whether the block has an event.
+fn is_live(kernel: &Kernel, block: u8) -> bool {
+    !kernel.is_stale(kernel.handle(block))
+}
+
 fn live_blocks(kernel: &Kernel) -> Vec<u8> {
-    let is_live = |block: &u8| !kernel.is_stale(kernel.handle(*block));
-    BLOCKS.filter(is_live).collect()
+    BLOCKS.filter(|&block| is_live(kernel, block)).collect()
+}
+
+/// The generation before this one; before the first the last.
+fn before(generation: u32) -> u32 {
+    generation.checked_sub(1).unwrap_or(LAST_GENERATION)
 }
 
 /// The entries of the fullest side queue.

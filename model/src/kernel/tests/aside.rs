@@ -7,7 +7,7 @@ impl Bench {
     fn open_step(&mut self) -> Handle {
         let event = self.new_event(31, 16);
         self.post(event, 5);
-        self.expect(Next, &[0, 5, 31, 0, event.block, event.generation]);
+        self.expect_event(Next, &[0, 5, 31], event);
         event
     }
 
@@ -23,7 +23,7 @@ impl Bench {
 
     /// A step of object 5 by an event of signal 31, and whether its END frees the event.
     fn expect_step(&mut self, event: Handle, frees: bool) {
-        self.expect(Next, &[0, 5, 31, 0, event.block, event.generation]);
+        self.expect_event(Next, &[0, 5, 31], event);
         self.expect(End, &[0, 0, 0, 0, u8::from(frees)]);
     }
 }
@@ -38,12 +38,12 @@ fn an_event_set_aside_survives_its_end() {
     assert_eq!(bench.kernel.references(event.block), 2);
     bench.expect(End, &[0, 0, 0, 0, 0]);
     bench.expect(End, &[5]);
-    bench.expect(new(31, 16), &[0, 0, 0, 30, 1, 0]);
+    bench.expect_event(new(31, 16), &[0, 0, 0, 30], handle(1, 0));
     bench.expect(Recall { q: 3, p: 5 }, &[0, 0, 0, 0, 1]);
     assert_eq!(bench.kernel.references(event.block), 1);
     bench.expect_step(event, true);
     bench.expect(Recall { q: 3, p: 5 }, &[0, 0, 0, 0, 0]);
-    bench.expect(new(31, 16), &[0, 0, 0, 30, 0, 1]);
+    bench.expect_event(new(31, 16), &[0, 0, 0, 30], handle(0, 1));
 }
 
 #[test]
@@ -72,7 +72,7 @@ fn a_timer_entry_makes_way_for_a_recalled_event() {
     bench.expect(Tick, &[0, 0, 0, 0, 1, 0]);
     bench.expect(Recall { q: 0, p: 5 }, &[0, 0, 0, 0, 1]);
     bench.expect_step(event, true);
-    bench.expect(Next, &[0, 5, 30, 0, 137, 0]);
+    bench.expect_event(Next, &[0, 5, 30], timer_event(9));
 }
 
 #[test]
@@ -138,7 +138,7 @@ fn defer_asks_for_a_block_event_in_hand() {
     bench.expect(Defer { q: 8 }, &[3]);
     bench.expect(arm(0, 5, 31), &[0]);
     bench.expect(Tick, &[0, 0, 0, 0, 1, 0]);
-    bench.expect(Next, &[0, 5, 31, 0, 128, 0]);
+    bench.expect_event(Next, &[0, 5, 31], timer_event(0));
     // STALE comes before FULL, RANGE before STALE.
     bench.expect(Defer { q: 0 }, &[7]);
     bench.expect(Defer { q: 1 }, &[7]);
@@ -203,11 +203,11 @@ fn flush_frees_what_nothing_else_refers_to() {
         bench.expect(Hold { handle }, &[7]);
     }
     // Freed once each, although one of them had two entries.
-    bench.expect(new(4, 16), &[0, 0, 0, 26, 0, 1]);
-    bench.expect(new(4, 16), &[0, 0, 0, 26, 1, 1]);
+    bench.expect_event(new(4, 16), &[0, 0, 0, 26], handle(0, 1));
+    bench.expect_event(new(4, 16), &[0, 0, 0, 26], handle(1, 1));
     bench.expect(Release { handle: held }, &[0, 0, 0, 0, 0, 1]);
     bench.expect(End, &[0, 0, 0, 0, 1]);
-    bench.expect(Next, &[0, 3, 31, 0, 3, 0]);
+    bench.expect_event(Next, &[0, 3, 31], handle(3, 0));
     bench.expect(End, &[0, 0, 0, 0, 1]);
     bench.expect(Read { handle: elsewhere }, &[0, 0, 0, 16, 16]);
     bench.expect(Flush { q: 0 }, &[0, 0, 0, 0, 1]);

@@ -90,7 +90,7 @@ fn new_writes_the_whole_block_and_nothing_else() {
         size: 20,
         payload,
     };
-    bench.expect(new, &[0, 0, 0, 15, 32, 0]);
+    bench.expect_event(new, &[0, 0, 0, 15], handle(32, 0));
     let (before, rest) = bench.payloads.split_at(512);
     let (block, after) = rest.split_at(32);
     assert_eq!(block[..20], [7; 20]);
@@ -116,7 +116,7 @@ fn read_shows_the_payload() {
             size,
             payload: used,
         };
-        bench.expect(new, &[0, 0, 0, mark, block, 0]);
+        bench.expect_event(new, &[0, 0, 0, mark], handle(block, 0));
         let shown = size.min(18);
         let head = [0, 0, 0, shown, size, 0];
         let expected = [&head, &payload[..usize::from(shown)]].concat();

@@ -38,7 +38,7 @@ fn an_unsound_row_stops_it_and_stays_at_the_front() {
     bench.expect(Next, &[15]);
     bench.expect(End, &[5]);
     bench.tables[outcome] = 0;
-    bench.expect(Next, &[0, 5, 9, 0, 1, 0]);
+    bench.expect_event(Next, &[0, 5, 9], handle(1, 0));
     bench.expect(End, &[0, 0, 0, 0, 1]);
     bench.expect(Drain { budget: 255 }, &[0, 0, 0, 0, 1, 1]);
 }
@@ -63,15 +63,15 @@ fn the_log_has_one_next_answer_per_step() {
     bench.post(signal_6, 9);
     bench.expect(Drain { budget: 255 }, &[0, 0, 0, 0, 3, 1]);
     let lines = [
-        reply(&[0, 9, 64 + 6, 4, 0, 0, 26, 22, 31, 41]),
-        reply(&[0, 5, 64 + 6, 4, 0, 0, 26, 22, 31, 41]),
-        reply(&[0, 5, 32 + 9, 1, 32, 0, 49]),
+        event_reply(&[0, 9, 64 + 6, 4, 0, 0, 26, 22, 31, 41], signal_6),
+        event_reply(&[0, 5, 64 + 6, 4, 0, 0, 26, 22, 31, 41], signal_6),
+        event_reply(&[0, 5, 32 + 9, 1, 0, 0, 49], signal_9),
     ];
-    assert_eq!(bench.log[..72], lines.concat());
-    assert!(bench.log[72..].iter().all(|&byte| byte == UNTOUCHED));
+    assert_eq!(bench.log[..84], lines.concat());
+    assert!(bench.log[84..].iter().all(|&byte| byte == UNTOUCHED));
     // Both events were freed.
-    bench.expect(new(4, 0), &[0, 0, 0, 31, 0, 1]);
-    bench.expect(new(4, 20), &[0, 0, 0, 15, 32, 1]);
+    bench.expect_event(new(4, 0), &[0, 0, 0, 31], handle(0, 1));
+    bench.expect_event(new(4, 20), &[0, 0, 0, 15], handle(32, 1));
 }
 
 #[test]
@@ -85,8 +85,8 @@ fn a_full_budget_fills_the_log() {
         }
     }
     bench.expect(Drain { budget: 255 }, &[0, 0, 0, 0, 255, 0]);
-    assert_eq!(bench.log[6_096..], reply(&[0, 1, 31, 0, 0, 0]));
-    bench.expect(Next, &[0, 1, 31, 0, 0, 0]);
+    assert_eq!(bench.log[7_112..], event_reply(&[0, 1, 31], event));
+    bench.expect_event(Next, &[0, 1, 31], handle(0, 0));
     bench.expect(End, &[0, 0, 0, 0, 1]);
 }
 
@@ -96,12 +96,12 @@ fn next_takes_a_sound_row_as_it_stands() {
     // Ignored by outcome, but it moves the rest, and lists an action of 0.
     let row = row_offset(2, 31);
     bench.tables[row..row + 5].copy_from_slice(&[24, 0, 2, 0, 7]);
-    bench.expect(Next, &[0, 5, 31, 2, 0, 0, 0, 7]);
+    bench.expect_event(Next, &[0, 5, 31, 2, 0, 0, 0, 7], handle(0, 0));
     bench.expect(End, &[0]);
     // State 24 is absent: its rows are zeros, and next 0 is unsound.
     bench.expect(Next, &[15]);
     bench.tables[row_offset(24, 31)] = 1;
-    bench.expect(Next, &[0, 5, 31, 0, 0, 0]);
+    bench.expect_event(Next, &[0, 5, 31], handle(0, 0));
 }
 
 #[test]
@@ -118,7 +118,7 @@ fn start_takes_a_sound_row_as_it_stands() {
     bench.expect(start(5), &[0, 5, 32, 1, 0, 0, 99]);
     let event = bench.new_event(9, 0);
     bench.post(event, 5);
-    bench.expect(Next, &[0, 5, 32 + 9, 1, 0, 0, 49]);
+    bench.expect_event(Next, &[0, 5, 32 + 9, 1, 0, 0, 49], handle(0, 0));
 }
 
 #[test]

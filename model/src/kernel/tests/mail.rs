@@ -56,7 +56,7 @@ fn posts_go_to_the_back_and_front_posts_to_the_front() {
     bench.expect(post_front(2), &[0, 0, 0, 0, 3]);
     bench.expect(post_front(3), &[0, 0, 0, 0, 4]);
     for (block, signal) in [(3, 23), (2, 22), (0, 20), (1, 21)] {
-        bench.expect(Next, &[0, 5, signal, 0, block, 0]);
+        bench.expect_event(Next, &[0, 5, signal], handle(block, 0));
         bench.expect(End, &[0, 0, 0, 0, 1]);
     }
     bench.expect(Next, &[6]);
@@ -87,14 +87,14 @@ fn each_step_moves_the_rest() {
     }
     let steps: [&[u8]; 5] = [
         &[0, 9, 64 + 6, 4, 0, 0, 26, 22, 31, 41],
-        &[0, 9, 32 + 9, 1, 1, 0, 49],
-        &[0, 9, 64 + 8, 3, 2, 0, 38, 42, 51],
-        &[0, 9, 64 + 11, 5, 3, 0, 59, 52, 32, 13, 21],
+        &[0, 9, 32 + 9, 1, 0, 0, 49],
+        &[0, 9, 64 + 8, 3, 0, 0, 38, 42, 51],
+        &[0, 9, 64 + 11, 5, 0, 0, 59, 52, 32, 13, 21],
         // Back in state 2, which ignores signal 9.
-        &[0, 9, 9, 0, 4, 0],
+        &[0, 9, 9],
     ];
-    for step in steps {
-        bench.expect(Next, step);
+    for (block, step) in (0..).zip(steps) {
+        bench.expect_event(Next, step, handle(block, 0));
         bench.expect(End, &[0, 0, 0, 0, 1]);
     }
 }
@@ -154,7 +154,7 @@ fn publish_without_subscriber_frees_a_new_event_only() {
     bench.post(handle, 3);
     bench.expect(Release { handle }, &[0, 0, 0, 0, 0, 0]);
     bench.expect(Publish { handle }, &[0, 0, 0, 0, 0, 0]);
-    bench.expect(Next, &[0, 3, 31, 0, handle.block, handle.generation]);
+    bench.expect_event(Next, &[0, 3, 31], handle);
     bench.expect(Publish { handle }, &[0, 0, 0, 0, 0, 0]);
     bench.expect(End, &[0, 0, 0, 0, 1]);
 }

@@ -1,5 +1,6 @@
 //! What NEW shows of its pool: the least number of free blocks since the fresh start.
 
+use super::freeing::{by_drop, WAYS};
 use super::*;
 
 /// Of each pool the first block, the number of blocks, the smallest and the largest size.
@@ -11,9 +12,8 @@ impl Bench {
         let mut events = Vec::new();
         for &mark in marks {
             let shown = self.send(new(31, size));
-            let event = handle(shown[4], shown[5]);
-            let expected = [0, 0, 0, mark, event.block, event.generation];
-            assert_eq!(shown, reply(&expected));
+            let event = shown_handle(&shown);
+            assert_eq!(shown, event_reply(&[0, 0, 0, mark], event));
             events.push(event);
         }
         events
@@ -21,14 +21,14 @@ impl Bench {
 
     /// The first new event of each pool.
     fn expect_fresh_marks(&mut self) {
-        self.expect(new(4, 16), &[0, 0, 0, 31, 0, 0]);
-        self.expect(new(4, 32), &[0, 0, 0, 15, 32, 0]);
-        self.expect(new(4, 64), &[0, 0, 0, 7, 48, 0]);
+        self.expect_event(new(4, 16), &[0, 0, 0, 31], handle(0, 0));
+        self.expect_event(new(4, 32), &[0, 0, 0, 15], handle(32, 0));
+        self.expect_event(new(4, 64), &[0, 0, 0, 7], handle(48, 0));
     }
 
     fn drop_all(&mut self, events: &[Handle]) {
         for &event in events {
-            free_by_drop(self, event);
+            by_drop(self, event);
         }
     }
 }
@@ -45,7 +45,7 @@ fn the_mark_falls_to_0_as_a_pool_empties() {
             let mut bench = Bench::fresh();
             for taken in 1..=blocks {
                 let block = first + taken - 1;
-                bench.expect(new(4, size), &[0, 0, 0, blocks - taken, block, 0]);
+                bench.expect_event(new(4, size), &[0, 0, 0, blocks - taken], handle(block, 0));
             }
             bench.expect(new(4, size), &[11]);
         }
@@ -65,12 +65,12 @@ fn a_dry_pool_keeps_the_mark_0() {
         bench.drop_all(&events[..3]);
         // Two blocks are free after the first of these, then one, then none.
         for block in first..first + 3 {
-            bench.expect(new(4, size), &[0, 0, 0, 0, block, 1]);
+            bench.expect_event(new(4, size), &[0, 0, 0, 0], handle(block, 1));
         }
         bench.expect(new(4, size), &[11]);
         // At least half of the blocks are free after this.
         bench.drop_all(&events[3..]);
-        bench.expect(new(4, size), &[0, 0, 0, 0, first + 3, 1]);
+        bench.expect_event(new(4, size), &[0, 0, 0, 0], handle(first + 3, 1));
     }
 }
 
@@ -83,53 +83,13 @@ fn the_mark_moves_again_once_it_is_passed() {
     bench.expect_marks(16, &[27, 27, 27, 26, 25]);
     // One block given back and taken again is no new low.
     bench.drop_all(&events[..1]);
-    bench.expect(new(4, 16), &[0, 0, 0, 25, 0, 1]);
-    bench.expect(new(4, 16), &[0, 0, 0, 24, 7, 0]);
-}
-
-fn free_by_drop(bench: &mut Bench, handle: Handle) {
-    bench.expect(Drop { handle }, &[0]);
-}
-
-fn free_by_publish(bench: &mut Bench, handle: Handle) {
-    bench.expect(Publish { handle }, &[0, 0, 0, 0, 0, 1]);
-}
-
-fn free_by_release(bench: &mut Bench, handle: Handle) {
-    bench.expect(Hold { handle }, &[0, 0, 0, 0, 1]);
-    bench.expect(Release { handle }, &[0, 0, 0, 0, 0, 1]);
-}
-
-fn free_by_end(bench: &mut Bench, handle: Handle) {
-    bench.post(handle, 5);
-    bench.expect(Next, &[0, 5, 31, 0, handle.block, 0]);
-    bench.expect(End, &[0, 0, 0, 0, 1]);
-}
-
-fn free_by_drain(bench: &mut Bench, handle: Handle) {
-    bench.post(handle, 5);
-    bench.expect(Drain { budget: 1 }, &[0, 0, 0, 0, 1, 1]);
-}
-
-fn free_by_flush(bench: &mut Bench, handle: Handle) {
-    bench.post(handle, 5);
-    bench.expect(Next, &[0, 5, 31, 0, handle.block, 0]);
-    bench.expect(Defer { q: 0 }, &[0, 0, 0, 0, 1]);
-    bench.expect(End, &[0, 0, 0, 0, 0]);
-    bench.expect(Flush { q: 0 }, &[0, 0, 0, 0, 1]);
+    bench.expect_event(new(4, 16), &[0, 0, 0, 25], handle(0, 1));
+    bench.expect_event(new(4, 16), &[0, 0, 0, 24], handle(7, 0));
 }
 
 #[test]
 fn no_way_of_freeing_moves_the_mark() {
-    let ways: [fn(&mut Bench, Handle); 6] = [
-        free_by_drop,
-        free_by_publish,
-        free_by_release,
-        free_by_end,
-        free_by_drain,
-        free_by_flush,
-    ];
-    for free in ways {
+    for free in WAYS {
         let mut bench = Bench::with_objects(&[(5, 1)]);
         for event in bench.expect_marks(16, &[31, 30, 29]) {
             free(&mut bench, event);
@@ -148,11 +108,11 @@ fn a_block_is_not_free_whatever_keeps_it() {
     bench.expect(Hold { handle: held }, &[0, 0, 0, 0, 1]);
     bench.post(queued, 5);
     bench.post(set_aside, 9);
-    bench.expect(Next, &[0, 9, 31, 0, 2, 0]);
+    bench.expect_event(Next, &[0, 9, 31], handle(2, 0));
     bench.expect(Defer { q: 0 }, &[0, 0, 0, 0, 1]);
     bench.expect(End, &[0, 0, 0, 0, 0]);
     bench.post(in_hand, 9);
-    bench.expect(Next, &[0, 9, 31, 0, 3, 0]);
+    bench.expect_event(Next, &[0, 9, 31], handle(3, 0));
     bench.expect_marks(16, &[27]);
 }
 
@@ -178,14 +138,14 @@ fn a_dry_pool_moves_no_other_mark() {
     for size in 0..=16 {
         bench.expect(new(4, size), &[11]);
     }
-    bench.expect(new(4, 17), &[0, 0, 0, 15, 32, 0]);
+    bench.expect_event(new(4, 17), &[0, 0, 0, 15], handle(32, 0));
     for _ in 0..15 {
         bench.new_event(4, 17);
     }
     for size in 17..=32 {
         bench.expect(new(4, size), &[11]);
     }
-    bench.expect(new(4, 33), &[0, 0, 0, 7, 48, 0]);
+    bench.expect_event(new(4, 33), &[0, 0, 0, 7], handle(48, 0));
 }
 
 /// Every refusal of NEW but DRY.
@@ -243,7 +203,8 @@ fn the_marks_begin_again_at_a_fresh_start() {
     bench.expect_fresh_marks();
     // So at each start of the program.
     let trace = [new(4, 0).record(), new(4, 0).record()].concat();
-    let expected = [reply(&[0, 0, 0, 31]), reply(&[0, 0, 0, 30, 1])].concat();
+    let second = event_reply(&[0, 0, 0, 30], handle(1, 0));
+    let expected = [reply(&[0, 0, 0, 31]), second].concat();
     for _ in 0..2 {
         assert_eq!(replay(&trace, &Charts::default()), expected);
     }

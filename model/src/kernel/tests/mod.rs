@@ -3,6 +3,8 @@
 mod aside;
 mod commands;
 mod drain;
+mod freeing;
+mod generations;
 mod mail;
 mod marks;
 mod pools;
@@ -15,6 +17,7 @@ use super::numbers::*;
 use super::replay::{chart_for, replay, Charts};
 use super::Kernel;
 use crate::harness::good::shift;
+use crate::harness::traces::show::shown_handle;
 use Command::*;
 
 /// What the areas hold at first, so that a byte written or not written shows.
@@ -71,11 +74,16 @@ impl Bench {
         assert_eq!(self.send(command), reply(begin), "{command:?}");
     }
 
+    /// Sends a NEW or a NEXT whose reply begins with these bytes and ends in the event's handle.
+    fn expect_event(&mut self, command: Command, begin: &[u8], event: Handle) {
+        assert_eq!(self.send(command), event_reply(begin, event), "{command:?}");
+    }
+
     /// A new event with a payload of zeros.
     fn new_event(&mut self, signal: u8, size: u8) -> Handle {
         let reply = self.send(new(signal, size));
         assert_eq!(reply[0], 0);
-        handle(reply[4], reply[5])
+        shown_handle(&reply)
     }
 
     fn post(&mut self, handle: Handle, p: u8) {
@@ -90,8 +98,20 @@ fn reply(begin: &[u8]) -> [u8; REPLY_BYTES] {
     reply
 }
 
-fn handle(block: u8, generation: u8) -> Handle {
+/// The reply of a NEW or a NEXT.
+fn event_reply(begin: &[u8], event: Handle) -> [u8; REPLY_BYTES] {
+    let mut reply = reply(begin);
+    reply[24..].copy_from_slice(&event.bytes());
+    reply
+}
+
+fn handle(block: u8, generation: u32) -> Handle {
     Handle { block, generation }
+}
+
+/// What NEXT shows in place of a handle.
+fn timer_event(timer: u8) -> Handle {
+    handle(128 + timer, 0)
 }
 
 fn new(signal: u8, size: u8) -> Command {
@@ -108,10 +128,10 @@ fn the_trace_of_the_document() {
     trace[0] = 1;
     trace[72..76].copy_from_slice(&[2, 9, 0, 1]);
     trace[144] = 12;
-    let mut expected = [0; 72];
+    let mut expected = [0; 84];
     expected[4] = 5;
-    expected[24..34].copy_from_slice(&[0, 9, 64, 4, 0, 0, 10, 11, 13, 21]);
-    expected[48] = 6;
+    expected[28..38].copy_from_slice(&[0, 9, 64, 4, 0, 0, 10, 11, 13, 21]);
+    expected[56] = 6;
     let charts = [shift(), Vec::new(), Vec::new(), Vec::new()];
     assert_eq!(replay(&trace, &charts), expected);
 }

@@ -253,7 +253,7 @@ fn other_commands_take_areas_of_any_length() {
             .command(&command.record(), &[], &mut [], &mut [], &mut []);
         assert_eq!(answer[0], 0, "{command:?}");
     }
-    bench.expect(Next, &[0, 5, 31, 0, 0, 0]);
+    bench.expect_event(Next, &[0, 5, 31], handle(0, 0));
     let in_a_step = [
         (Defer { q: 0 }, reply(&[0, 0, 0, 0, 1])),
         (Recall { q: 0, p: 5 }, reply(&[0, 0, 0, 0, 1])),
@@ -296,5 +296,5 @@ fn idle_comes_before_table() {
     bench.post(event, 5);
     bench.expect(Next, &[15]);
     bench.tables[row_offset(2, 4)] = 1;
-    bench.expect(Next, &[0, 5, 4, 0, 0, 0]);
+    bench.expect_event(Next, &[0, 5, 4], handle(0, 0));
 }

@@ -21,10 +21,10 @@ fn of_two_due_timers_with_one_place_the_lower_fires() {
     bench.expect(Tick, &[0, 0, 0, 0, 1, 1]);
     // The late one is tried again at each tick.
     bench.expect(Tick, &[0, 0, 0, 0, 0, 1]);
-    bench.expect(Next, &[0, 5, 30, 0, 138, 0]);
+    bench.expect_event(Next, &[0, 5, 30], timer_event(10));
     bench.expect(Tick, &[0, 0, 0, 0, 1, 0]);
     bench.expect(End, &[0, 0, 0, 0, 0]);
-    bench.expect(Next, &[0, 5, 31, 0, 139, 0]);
+    bench.expect_event(Next, &[0, 5, 31], timer_event(11));
     bench.expect(End, &[0, 0, 0, 0, 0]);
     bench.expect(Tick, &[0, 0, 0, 0, 0, 0]);
 }
@@ -72,9 +72,13 @@ fn disarm_leaves_a_queued_entry() {
     // Armed anew with another signal: the queued entry keeps the old one.
     bench.expect(arm(7, 5, 31, 1, 0), &[0]);
     bench.expect(Tick, &[0, 0, 0, 0, 1, 0]);
-    bench.expect(Next, &[0, 5, 64 + 6, 4, 135, 0, 26, 22, 31, 41]);
+    bench.expect_event(
+        Next,
+        &[0, 5, 64 + 6, 4, 0, 0, 26, 22, 31, 41],
+        timer_event(7),
+    );
     bench.expect(End, &[0]);
-    bench.expect(Next, &[0, 5, 31, 0, 135, 0]);
+    bench.expect_event(Next, &[0, 5, 31], timer_event(7));
 }
 
 #[test]
@@ -95,11 +99,11 @@ fn timer_entries_go_to_the_back_and_are_no_blocks() {
     bench.post(event, 5);
     bench.expect(arm(0, 5, 31, 1, 0), &[0]);
     bench.expect(Tick, &[0, 0, 0, 0, 1, 0]);
-    bench.expect(Next, &[0, 5, 31, 0, 0, 0]);
+    bench.expect_event(Next, &[0, 5, 31], handle(0, 0));
     bench.expect(End, &[0, 0, 0, 0, 1]);
-    bench.expect(Next, &[0, 5, 31, 0, 128, 0]);
+    bench.expect_event(Next, &[0, 5, 31], timer_event(0));
     // Block 0 is free although timer 0 is in hand.
-    bench.expect(new(31, 0), &[0, 0, 0, 31, 0, 1]);
+    bench.expect_event(new(31, 0), &[0, 0, 0, 31], handle(0, 1));
     bench.expect(
         Drop {
             handle: handle(0, 1),

@@ -1,6 +1,7 @@
 //! The cases that were written by hand from documents 01 and 02 for the proved kernel.
 
 use super::*;
+use crate::harness::traces::show::told_bytes;
 use crate::kernel::command::COMMAND_NAMES;
 use crate::kernel::replay::Program;
 
@@ -19,35 +20,47 @@ fn charts() -> Charts {
 
 /// The record of a line, as the crate `words` tells how one is written.
 fn record_of(command: &str) -> Vec<u8> {
-    let (name, numbers) = command.split_once(' ').unwrap_or((command, ""));
-    let numbers: Vec<u16> = numbers.split(' ').flat_map(str::parse).collect();
-    let bytes: Vec<u8> = numbers
-        .iter()
-        .flat_map(|&number| u8::try_from(number))
+    let mut words = command.split(' ');
+    let name = words.next().expect("a name or a number");
+    let numbers = words.enumerate();
+    let mut bytes: Vec<u8> = numbers
+        .flat_map(|(place, number)| bytes_of(number, width(name, place)))
         .collect();
-    let number = COMMAND_NAMES.iter().position(|known| *known == name);
-    let number = number.map_or(0, |index| index as u8 + 1);
-    match (name, &numbers[..]) {
-        ("PIECE", _) => bytes,
-        ("NEW", [_, _, ..]) => padded(&[&[number], &bytes[..2], &[0; 5], &bytes[2..]].concat()),
-        ("ARM", &[timer, p, signal, ticks, interval]) => Arm {
-            timer: timer as u8,
-            p: p as u8,
-            signal: signal as u8,
-            ticks,
-            interval,
-        }
-        .record()
-        .to_vec(),
-        _ if number > 0 => padded(&[&[number], &bytes[..]].concat()),
-        _ => padded(&[&[name.parse().expect("a name or a number")], &bytes[..]].concat()),
+    if name == "PIECE" {
+        return bytes;
+    }
+    if name == "NEW" && bytes.len() > 2 {
+        // The payload stands behind all arguments.
+        bytes.splice(2..2, [0; 5]);
+    }
+    bytes.insert(0, number_of(name));
+    bytes.resize(RECORD_BYTES, 0);
+    bytes
+}
+
+/// How many bytes a number has that stands at this place behind a name: a generation three, ticks and interval two.
+fn width(name: &str, place: usize) -> usize {
+    match (name, place) {
+        ("POST" | "POSTFRONT" | "PUBLISH" | "HOLD" | "RELEASE" | "DROP" | "READ", 1) => 3,
+        ("ARM", 3 | 4) => 2,
+        _ => 1,
     }
 }
 
-fn padded(begin: &[u8]) -> Vec<u8> {
-    let mut record = begin.to_vec();
-    record.resize(RECORD_BYTES, 0);
-    record
+/// So many bytes, low byte first.
+fn bytes_of(number: &str, width: usize) -> Vec<u8> {
+    let number: u32 = number.parse().expect("a number");
+    let four_bytes = number.to_le_bytes();
+    let (bytes, rest) = four_bytes.split_at(width);
+    assert!(rest.iter().all(|&byte| byte == 0), "{number} is too large");
+    bytes.to_vec()
+}
+
+fn number_of(name: &str) -> u8 {
+    match COMMAND_NAMES.iter().position(|known| *known == name) {
+        Some(index) => index as u8 + 1,
+        None => name.parse().expect("a name or a number"),
+    }
 }
 
 /// The record of a chart that a line writes out, if it does.
@@ -75,16 +88,15 @@ fn the_written_cases() {
             chart.clear();
         }
         chart.extend(chart_record_of(line).into_iter().flatten());
-        let Some((command, answer)) = line.split_once('=') else {
+        let Some((command, _)) = line.split_once('=') else {
             continue;
         };
-        let bytes: Vec<u8> = answer.split_whitespace().flat_map(str::parse).collect();
         let record = record_of(command.trim());
         let answered = match &chart[..] {
             [] => program.answer(&record),
             written => program.answer_with(&record, written),
         };
-        assert_eq!(answered, reply(&bytes), "{line}");
+        assert_eq!(format!("{command}={}", told_bytes(&answered)), line);
         chart.clear();
     }
 }
