@@ -6,7 +6,7 @@ ghost use mathlib.Core.Path.{_≡_};
 ghost use Prim.Native.Nat.{ℕ, _-_, _<_, _≤_};
 ghost use lib.ListN.{getD, set};
 ghost use Rattle.machine.specs.Events as machine;
-ghost use Rattle.machine.specs.Events.{fullReceiver, postTests, posted, postedFront, publishDone, published};
+ghost use Rattle.machine.specs.Events.{fullReceiver, postTests, posted, postedFront, publishDone};
 ghost use Rattle.machine.specs.Numbers.{blocks, objects};
 ghost use Rattle.machine.specs.Reply.{Areas, lowest};
 ghost use Rattle.machine.specs.State.{withCells, withHolds, withMarks};
@@ -107,42 +107,31 @@ pub fn post_front(k: Kernel, spoilt: bool, b: usize, generation: u32, p: usize) 
     }
 }
 
-// Block b goes to the back of every subscriber to signal g, each of which has room.
-fn post_to_all(mut k: Kernel, b: usize, g: usize) -> Kernel
-    requires { ⌜ (b < blocks) × (g < 256) ⌝ }
-    requires { ⌜ (fullReceiver (stateOf k) g objects ≡ false) × ((q : ℕ) → getD (k .depths) q 0 ≤ room) ⌝ }
-    ensures { λ r. ⌜ stateOf r ≡ published (stateOf k) g b objects ⌝ }
-{
-    let wants = k.wants;
-    let mut places = k.places;
-    let heads = k.heads;
-    let mut counts = k.counts;
-    let pool = publish::post_to_all(&wants, &mut places, &heads, &mut counts, k.pool, b, g);
-    k.places = places;
-    k.counts = counts;
-    k.pool = pool;
-    k
-}
-
-// What PUBLISH does where every subscriber to the event's signal g has a place.
+// What PUBLISH does where every subscriber to the event's signal g has a place. The posts' references are added at once: a pool in their
+// loop is copied for each of them.
 fn publish_done(mut k: Kernel, b: usize, g: usize) -> Answered
     requires { ⌜ (b < blocks) × (g < 256) × (g ≡ getD (k .signals) b 0) ⌝ }
     requires { ⌜ (fullReceiver (stateOf k) g objects ≡ false) × ((q : ℕ) → getD (k .depths) q 0 ≤ room) ⌝ }
     ensures { λ r. ⌜ ((z : Areas) → answered r z ≡ publishDone (machine.receivers (stateOf k) g objects) b (stateOf k) z) ⌝ }
 {
     let wants = k.wants;
-    let n = publish::receivers(&wants, g);
+    let mut places = k.places;
+    let heads = k.heads;
+    let mut counts = k.counts;
+    let n = publish::post_to_all(&wants, &mut places, &heads, &mut counts, b, g);
     if n == 0 {
         let gone = pool::drop_new(k.pool, b);
-        let pool = gone.pool;
-        k.pool = pool;
         return Answered {
-            kernel: k,
+            kernel: with_pool(k, gone.pool),
             reply: reply::done(0, one(gone.freed)),
         };
     }
+    let pool = pool::add_some(k.pool, b, n);
+    k.places = places;
+    k.counts = counts;
+    k.pool = pool;
     Answered {
-        kernel: post_to_all(k, b, g),
+        kernel: k,
         reply: reply::done(n, 0),
     }
 }

@@ -1,13 +1,13 @@
 -- What each operation makes of one block: of any, of one that is not in the set by its count.
 use mathlib.Core.Bool.{Bool, true, false}
 use mathlib.Core.Path.{_≡_, refl, sym, ap, _∙_}
-use Prim.Native.Nat.{ℕ, zero, suc, _+_, _-_, _<_, _≤_}
+use Prim.Native.Nat.{ℕ, zero, suc, _+_, _-_, _<_, _≤_, min}
 use native.Mathlib.Decide.{decLt}
 use native.Mathlib.Omega.{arith}
 use borrow.Author.Tests.{le-leb, lt-leb, ne-eqb}
 use lib.Dec.{leb, eqb·suc-zero}
 use Rattle.ground.specs.Bools.{cond-all}
-use Rattle.pool.specs.Cell.{Cell, live, retired, lastGeneration, back, mostReferences, isFree, isNew, atLast, generationOf, handedOut, more, fewer, fewerBy, dropped}
+use Rattle.pool.specs.Cell.{Cell, live, retired, lastGeneration, back, mostReferences, isFree, isNew, atLast, generationOf, handedOut, more, moreBy, fewer, fewerBy, dropped}
 use Rattle.pool.specs.Inside.{cellOf, wentBack}
 use Rattle.pool.specs.Laws.{fewer-back}
 
@@ -58,6 +58,24 @@ module _ (g n : ℕ) where
   pub more-one : n < mostReferences → more (used g n) ≡ used g (n + 1)
   unfolding more cellOf
   more-one h = rw (le-leb n mostReferences (omega arith), lt-leb mostReferences n h, le-leb (n + 1) mostReferences (omega arith)) refl
+
+-- So many references more: of a block that stays as it is, and of one that is live.
+pub more-still : (c : Cell) → more c ≡ c → (t : ℕ) → moreBy t c ≡ c
+unfolding moreBy
+more-still c e zero = refl
+more-still c e (suc t) = ap more (more-still c e t) ∙ e
+
+pub more-some : (g n : ℕ) → n < mostReferences → (t : ℕ) → moreBy t (used g n) ≡ used g (min (n + t) mostReferences)
+unfolding moreBy
+more-some g n few zero = ap (used g) (omega arith)
+more-some g n few (suc t) = ap more (more-some g n few t) ∙ go (decLt (n + t) mostReferences)
+  where
+    held : ℕ
+    held = min (n + t) mostReferences
+
+    go : Dec (n + t < mostReferences) → more (used g held) ≡ used g (min (n + suc t) mostReferences)
+    go (yes h) = more-one g held (omega arith) ∙ ap (used g) (omega arith)
+    go (no h) = more-most g held (omega arith) ∙ ap (used g) (omega arith)
 
 -- Letting go, by the count: nothing to let go, the last reference, a retired block, one of several references.
 pub fewer-none : (g n : ℕ) → n ≡ 0 → (fewer (used g n) ≡ used g n) × (atLast (used g n) ≡ false)

@@ -6,7 +6,7 @@ ghost use mathlib.Core.Path.{_≡_};
 ghost use Prim.Native.Nat.{ℕ, _-_, _<_, _≤_, min};
 ghost use Rattle.bits.specs.Members.{members, width};
 ghost use Rattle.ground.specs.Range.{countFrom, tab};
-ghost use Rattle.pool.specs.Cell.{isNew, atLast, more, fewer, fewerBy, dropped};
+ghost use Rattle.pool.specs.Cell.{isNew, atLast, more, moreBy, fewer, fewerBy, dropped};
 ghost use Rattle.pool.specs.Inside.{cells, freedIf, marks, rowOf, wentBack, Sized};
 ghost use Rattle.pool.specs.Mark.{freshMarks};
 ghost use Rattle.pool.specs.Promise.{Takes, Frees};
@@ -155,9 +155,9 @@ pub fn take(p: Pool, size: usize) -> Taken
     }
 }
 
-// One reference more to a live block.
-pub fn add(p: Pool, b: usize) -> Pool
-    ensures { λ r. ⌜ cells r ≡ changed more (cells p) b ⌝ }
+// So many references more to a live block, as far as they are counted.
+pub fn add_some(p: Pool, b: usize, times: u8) -> Pool
+    ensures { λ r. ⌜ cells r ≡ changed (moreBy times) (cells p) b ⌝ }
     ensures { λ r. ⌜ marks r ≡ marks p ⌝ }
 {
     let mut q = p;
@@ -167,12 +167,20 @@ pub fn add(p: Pool, b: usize) -> Pool
     if bits::has(q.free, b) {
         return q;
     }
-    let n = q.counts[b];
-    if MOST <= n {
+    let held = q.counts[b];
+    if MOST <= held {
         return q;
     }
-    q.counts[b] = n + 1;
+    q.counts[b] = least(held as usize + wide(times), MOST as usize) as u16;
     q
+}
+
+// One reference more to a live block.
+pub fn add(p: Pool, b: usize) -> Pool
+    ensures { λ r. ⌜ cells r ≡ changed more (cells p) b ⌝ }
+    ensures { λ r. ⌜ marks r ≡ marks p ⌝ }
+{
+    add_some(p, b, 1)
 }
 
 // Block b, which is not free, goes back, in the two arrays: whether it is free then. At the last generation it is retired.

@@ -5,12 +5,13 @@ ghost use mathlib.Core.Path.{_≡_};
 ghost use Prim.Native.Nat.{ℕ, _-_, _<_, _≤_};
 ghost use lib.Dec.{eqb};
 ghost use lib.ListN.{getD};
-ghost use Rattle.machine.specs.Events as machine;
-ghost use Rattle.machine.specs.Events.{fullReceiver, posted, published};
+ghost use Rattle.machine.specs.Events.{fullReceiver, published, receivers};
 ghost use Rattle.machine.specs.Numbers.{blocks, objects};
-ghost use Rattle.machine.specs.State.{State, wantPlace};
-ghost use Rattle.mail.specs.Box.{room};
-ghost use Rattle.mail.specs.View.{Mail};
+ghost use Rattle.machine.specs.State.{State, wantPlace, withBoxes};
+ghost use Rattle.mail.specs.Box.{pushBack, room};
+ghost use Rattle.mail.specs.Entry.{entryOf};
+ghost use Rattle.mail.specs.View.{boxes, Mail};
+ghost use Rattle.mail.specs.declared.Hand.the-variants.{Block};
 ghost use Rattle.publish.specs.Arrays.{HavePlaces, Reads, holding};
 use ground::byte_at;
 use ground::one;
@@ -20,7 +21,6 @@ use numbers::ALL_PLACES;
 use numbers::ALL_SIGNAL_PLACES;
 use numbers::OBJECTS;
 use numbers::SIGNAL_PLACES;
-use pool::Pool;
 
 // Whether object p subscribes to signal g.
 pub fn subscribes(wants: &[u8; ALL_SIGNAL_PLACES], p: usize, g: usize) -> bool
@@ -28,20 +28,6 @@ pub fn subscribes(wants: &[u8; ALL_SIGNAL_PLACES], p: usize, g: usize) -> bool
     ensures { λ r. ⌜ r ≡ eqb (getD (now (wants .entry)) (wantPlace p g) 0) 1 ⌝ }
 {
     byte_at(wants, SIGNAL_PLACES * (p - 1) + g) == 1
-}
-
-// How many objects subscribe to signal g.
-pub fn receivers(wants: &[u8; ALL_SIGNAL_PLACES], g: usize) -> u8
-    requires { ⌜ g < 256 ⌝ }
-    ensures { λ r. ⌜ ((s : State) → s .wants ≡ now (wants .entry) → r ≡ machine.receivers s g objects) ⌝ }
-{
-    let mut n: u8 = 0;
-    let mut p = OBJECTS;
-    while 0 < p {
-        n += one(subscribes(wants, p, g));
-        p -= 1;
-    }
-    n
 }
 
 // Whether object p subscribes to signal g and has no place.
@@ -87,47 +73,47 @@ fn post_to(
     places: &mut [u16; ALL_PLACES],
     heads: &[u8; OBJECTS],
     counts: &mut [u8; OBJECTS],
-    pool: Pool,
     b: usize,
     p: usize,
-) -> Pool
+)
     requires { ⌜ Mail (now places) (now heads) (now counts) ⌝ }
     requires { ⌜ (b < blocks) × (1 ≤ p) × (p ≤ objects) × (receives ≡ true → getD (now counts) (p - 1) 0 < room) ⌝ }
-    ensures { λ r. ⌜ Mail (now (places .exit)) (now (heads .entry)) (now (counts .exit)) ⌝ }
-    ensures { λ r. ⌜ ((q : ℕ) → (q ≡ p - 1 → ⊥) → getD (now (counts .exit)) q 0 ≡ getD (now (counts .entry)) q 0) ⌝ }
-    ensures { λ r. ⌜ ((s : State) → holding s r (now (places .exit)) (now (heads .entry)) (now (counts .exit))
+    ensures { λ _. ⌜ Mail (now (places .exit)) (now (heads .entry)) (now (counts .exit)) ⌝ }
+    ensures { λ _. ⌜ ((q : ℕ) → (q ≡ p - 1 → ⊥) → getD (now (counts .exit)) q 0 ≡ getD (now (counts .entry)) q 0) ⌝ }
+    ensures { λ _. ⌜ boxes (now (places .exit)) (now (heads .entry)) (now (counts .exit))
         ≡ cond receives
-        (posted (holding s pool (now (places .entry)) (now (heads .entry)) (now (counts .entry))) b p)
-        (holding s pool (now (places .entry)) (now (heads .entry)) (now (counts .entry)))) ⌝ }
+        (pushBack (boxes (now (places .entry)) (now (heads .entry)) (now (counts .entry))) (p - 1) (entryOf (Block b)))
+        (boxes (now (places .entry)) (now (heads .entry)) (now (counts .entry))) ⌝ }
 {
-    if !receives {
-        return pool;
+    if receives {
+        mail::push_back(places, heads, counts, p - 1, 1 + b as u16);
     }
-    mail::push_back(places, heads, counts, p - 1, 1 + b as u16);
-    pool::add(pool, b)
 }
 
-// Block b goes to the back of every subscriber to signal g, each of which has room.
+// Block b goes to the back of every subscriber to signal g, each of which has room. Their number is answered: so many references are to be
+// added.
 pub fn post_to_all(
     wants: &[u8; ALL_SIGNAL_PLACES],
     places: &mut [u16; ALL_PLACES],
     heads: &[u8; OBJECTS],
     counts: &mut [u8; OBJECTS],
-    pool: Pool,
     b: usize,
     g: usize,
-) -> Pool
+) -> u8
     requires { ⌜ Mail (now places) (now heads) (now counts) ⌝ }
     requires { ⌜ (b < blocks) × (g < 256) × HavePlaces (now wants) (now counts) g objects ⌝ }
-    ensures { λ r. ⌜ ((s : State) → s .wants ≡ now (wants .entry) → holding s r (now (places .exit)) (now (heads .entry)) (now (counts .exit))
-        ≡ published (holding s pool (now (places .entry)) (now (heads .entry)) (now (counts .entry))) g b objects) ⌝ }
+    ensures { λ r. ⌜ ((s : State) → s .wants ≡ now (wants .entry) → r ≡ receivers s g objects) ⌝ }
+    ensures { λ r. ⌜ ((s : State) → s .wants ≡ now (wants .entry) →
+        holding s (boxes (now (places .exit)) (now (heads .entry)) (now (counts .exit))) b r
+        ≡ published (withBoxes (boxes (now (places .entry)) (now (heads .entry)) (now (counts .entry))) s) g b objects) ⌝ }
 {
-    let mut left = pool;
+    let mut n: u8 = 0;
     let mut p = OBJECTS;
     while 0 < p {
         let receives = subscribes(wants, p, g);
-        left = post_to(receives, places, heads, counts, left, b, p);
+        post_to(receives, places, heads, counts, b, p);
+        n += one(receives);
         p -= 1;
     }
-    left
+    n
 }
