@@ -10,7 +10,7 @@ use Rattle.machine.specs.Charts.{load, start}
 use Rattle.machine.specs.Clocks.{arm, disarm, tick}
 use Rattle.machine.specs.Events.{new, post, postFront, publish, subscribe, unsubscribe, hold, release, dropEvent, read, readPart, readAt}
 use Rattle.machine.specs.Numbers.{recordBytes, noSize}
-use Rattle.machine.specs.Reply.{FORM, no, Areas, Answer, answer}
+use Rattle.machine.specs.Reply.{FORM, no, generationFrom, Areas, Answer, answer}
 use Rattle.machine.specs.State.{State}
 use Rattle.machine.specs.Steps.{next, end, drain}
 
@@ -21,9 +21,9 @@ arg r k = getD r k 0
 abbrev pub arg16 : List ℕ → ℕ → ℕ
 arg16 r k = arg r k + 256 * arg r (k + 1)
 
--- The handle of an event: its block is argument 1, its generation the next three, low byte first.
+-- The handle of an event: its block is argument 1, its generation the next three.
 abbrev pub generation : List ℕ → ℕ
-generation r = arg r 2 + 256 * arg r 3 + 65536 * arg r 4
+generation r = generationFrom r 2
 
 abbrev pub payload : List ℕ → List ℕ
 payload r = drop 8 r

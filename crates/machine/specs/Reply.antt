@@ -70,6 +70,10 @@ pub data Said : Type 0 where
 unfoldable pub handle : ℕ → ℕ → List ℕ
 handle b g = b ∷ g % 256 ∷ g / 256 % 256 ∷ g / 65536 % 256 ∷ []
 
+-- The generation whose three bytes stand in a list from place k on.
+abbrev pub generationFrom : List ℕ → ℕ → ℕ
+generationFrom l k = getD l k 0 + 256 * getD l (k + 1) 0 + 65536 * getD l (k + 2) 0
+
 abbrev pub noHandle : List ℕ
 noHandle = 0 ∷ 0 ∷ 0 ∷ 0 ∷ []
 

@@ -60,10 +60,8 @@ pub const SLOTS: usize = 4;
 // What is lent and answered: a record, a reply, the three areas. The log has a line for each of the most steps of a DRAIN.
 pub const RECORD_BYTES: usize = 72;
 
-// A reply ends with a handle: the first byte, and a generation of three bytes.
+// A reply ends with a handle.
 pub const HANDLE: usize = 24;
-
-pub const GENERATION: usize = HANDLE + 1;
 
 pub const REPLY_BYTES: usize = 28;
 

@@ -13,16 +13,16 @@ use Rattle.pool.specs.Row.{generationAt}
 use Rattle.pool.specs.declared.Found.the-variants.{At}
 use Rattle.machine.specs.Events.{newIn}
 use Rattle.machine.specs.Numbers.{handlePlace}
-use Rattle.machine.specs.Reply.{Areas, bytes, handle, replyOf}
+use Rattle.machine.specs.Reply.{Areas, bytes, handle, generationFrom, replyOf}
 use Rattle.machine.specs.State.{State}
 use Rattle.machine.specs.Steps.{coming, firstByte, generationIn, nextSays}
 
--- Of a reply: that byte, and that generation, low byte first.
+-- Of a reply: that byte, and that generation.
 abbrev pub saidEvent : List ℕ → ℕ
 saidEvent r = getD r handlePlace 0
 
 abbrev pub saidGeneration : List ℕ → ℕ
-saidGeneration r = getD r 25 0 + 256 * getD r 26 0 + 65536 * getD r 27 0
+saidGeneration r = generationFrom r (handlePlace + 1)
 
 -- three bytes are enough for every generation
 pub three-bytes : (gen : ℕ) → gen ≤ lastGeneration → gen % 256 + 256 * (gen / 256 % 256) + 65536 * (gen / 65536 % 256) ≡ gen

@@ -23,7 +23,7 @@ use Rattle.machine.specs.Inv.{isLive, references}
 use Rattle.machine.specs.Machine as machine
 use Rattle.machine.specs.Machine.{payload, partOf}
 use Rattle.machine.specs.Numbers.{blocks, objects, handlePlace, replyBytes}
-use Rattle.machine.specs.Reply.{DONE, CHART, TABLE, bytes, handle}
+use Rattle.machine.specs.Reply.{DONE, CHART, TABLE, bytes, handle, generationFrom}
 use Rattle.machine.specs.State.{signalIn, boxOf, restOf, sideOf, slotOf}
 use Rattle.machine.specs.Steps.{signalOf, firstByte, generationIn}
 use Rattle.story.specs.Calls.{areBytes, Call, Story, fresh, then, kernel, answerIn}
@@ -54,12 +54,12 @@ value₁ h c = getD (reply h c) 4 0
 abbrev pub value₂ : Story → Call → ℕ
 value₂ h c = getD (reply h c) 5 0
 
--- The handle that a reply ends with: its first byte, a block or 128 and a timer, and its generation, low byte first.
+-- The handle that a reply ends with: its first byte, a block or 128 and a timer, and its generation.
 abbrev pub event : Story → Call → ℕ
 event h c = getD (reply h c) handlePlace 0
 
 abbrev pub generation : Story → Call → ℕ
-generation h c = getD (reply h c) 25 0 + 256 * getD (reply h c) 26 0 + 65536 * getD (reply h c) 27 0
+generation h c = generationFrom (reply h c) (handlePlace + 1)
 
 abbrev pub Did : ℕ → Story → Call → Type 0
 Did n h c = (commandOf c ≡ n) × (number h c ≡ DONE)
