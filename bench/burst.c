@@ -106,7 +106,7 @@ static void drain_kernel(const struct bench_case *timed, size_t i)
 
     trunhoac_command(&kernels[i], record, sizeof record, NULL, 0,
                      areas->payloads, sizeof areas->payloads, areas->tables, sizeof areas->tables,
-                     logs[i], sizeof logs[i], replies[i]);
+                     areas->guarded, sizeof areas->guarded, logs[i], sizeof logs[i], replies[i]);
 }
 
 static void drain_untested(const struct bench_case *timed, size_t i)

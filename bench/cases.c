@@ -22,9 +22,14 @@ const struct bench_case cases[] = {
      .record = {TRUNHOAC_LOAD, 1}, .expected = {.reply = {[VALUES] = 5}}},
     {.name = "LOAD, largest chart", .call = COMMAND, .prepare = all_started, .chart = LARGEST_CHART,
      .record = {TRUNHOAC_LOAD, 1}, .expected = {.reply = {[VALUES] = 24}}},
+    {.name = "LOAD, guarded chart", .call = COMMAND, .prepare = all_started, .chart = GUARDED_CHART,
+     .record = {TRUNHOAC_LOAD, TRUNHOAC_GUARDED_SLOT}, .expected = {.reply = {[VALUES] = 6}}},
 
     {.name = "START", .call = COMMAND, .prepare = all_but_nine_started,
      .record = {TRUNHOAC_START, 9, 0, 16}, .expected = {.reply = {0, 9, 64, 4, 0, 0, 10, 11, 13, 21}}},
+    {.name = "START, slot 4", .call = COMMAND, .prepare = all_but_nine_started,
+     .record = {TRUNHOAC_START, 9, TRUNHOAC_GUARDED_SLOT, 16},
+     .expected = {.reply = {0, 9, 64, 7, 0, 0, 10, 11, 12, 13, 14, 15, 16}}},
 
     {.name = "NEW, 0 bytes", .call = COMMAND, .prepare = all_started,
      .record = {TRUNHOAC_NEW, MOVES, 0}, .expected = {.reply = {[COUNT] = 31, [EVENT] = HANDLE(0)}}},
@@ -72,10 +77,18 @@ const struct bench_case cases[] = {
     {.name = "NEXT, mail at object 1 only", .call = COMMAND, .prepare = event_at_one,
      .record = {TRUNHOAC_NEXT}, .expected = {.reply = {0, 1, 70, 4, 0, 0, 26, 22, 31, 41, [EVENT] = HANDLE(0)}}},
 
+    /* Outcome 1 and the signals 5 and 6 are 37 and 38. */
+    {.name = "NEXT, slot 4, first row taken", .call = COMMAND, .prepare = first_row_at_nine,
+     .record = {TRUNHOAC_NEXT}, .expected = {.reply = {0, 9, 37, 1, 0, 0, 46, [EVENT] = HANDLE(0)}}},
+    {.name = "NEXT, slot 4, sixth row taken", .call = COMMAND, .prepare = sixth_row_at_nine,
+     .record = {TRUNHOAC_NEXT}, .expected = {.reply = {0, 9, 38, 1, 0, 0, 31, [EVENT] = HANDLE(0)}}},
+
     {.name = "END, freeing", .call = COMMAND, .prepare = event_in_hand,
      .record = {TRUNHOAC_END}, .expected = {.reply = {[VALUES] = 1}}},
     {.name = "END, not freeing", .call = COMMAND, .prepare = event_in_hand_and_queued,
      .record = {TRUNHOAC_END}, .expected = {.reply = {[VALUES] = 0}}},
+    {.name = "END, slot 4, freeing", .call = COMMAND, .prepare = first_row_in_hand,
+     .record = {TRUNHOAC_END}, .expected = {.reply = {[VALUES] = 1}}},
 
     {.name = "ARM", .call = COMMAND, .prepare = all_started,
      .record = {TRUNHOAC_ARM, 0, 9, MOVES, 100, 0, 100, 0}, .expected = {.reply = {0}}},
@@ -102,6 +115,10 @@ const struct bench_case cases[] = {
      .record = {TRUNHOAC_DRAIN, 255}, .expected = {.reply = {[VALUES] = 16, 1}}},
     {.name = "DRAIN, 255 steps", .call = COMMAND, .prepare = queued_255_times, .steps = 255,
      .record = {TRUNHOAC_DRAIN, 255}, .expected = {.reply = {[VALUES] = 255, 1}}},
+    {.name = "DRAIN, slot 4, 255 steps by the first row", .call = COMMAND, .prepare = first_row_255_times, .steps = 255,
+     .record = {TRUNHOAC_DRAIN, 255}, .expected = {.reply = {[VALUES] = 255, 1}}},
+    {.name = "DRAIN, slot 4, 255 steps by the sixth row", .call = COMMAND, .prepare = sixth_row_255_times, .steps = 255,
+     .record = {TRUNHOAC_DRAIN, 255}, .expected = {.reply = {[VALUES] = 255, 1}}},
 
     {.name = "DEFER", .call = COMMAND, .prepare = event_in_hand,
      .record = {TRUNHOAC_DEFER, 0}, .expected = {.reply = {[VALUES] = 1}}},
@@ -114,9 +131,14 @@ const struct bench_case cases[] = {
     {.name = "FLUSH, 8 entries, freeing", .call = COMMAND, .prepare = event_aside_eight_times,
      .record = {TRUNHOAC_FLUSH, 0}, .expected = {.reply = {[VALUES] = 8}}},
 
+    {.name = "FLAG", .call = COMMAND, .prepare = all_started,
+     .record = {TRUNHOAC_FLAG, 9, 1, 1}, .expected = {.reply = {[VALUES] = 1}}},
+
     {.name = "chart_check, shift chart", .call = CHECK, .prepare = all_started, .chart = SHIFT_CHART,
      .expected = {.class = 0}},
     {.name = "chart_check, largest chart", .call = CHECK, .prepare = all_started, .chart = LARGEST_CHART,
+     .expected = {.class = 0}},
+    {.name = "chart_check_guarded", .call = CHECK_GUARDED, .prepare = all_started, .chart = GUARDED_CHART,
      .expected = {.class = 0}},
 };
 

@@ -11,7 +11,8 @@ enum call {
     COMMAND,
     SHORT_COMMAND, /* one byte of the record is missing */
     READ_PART,
-    CHECK
+    CHECK,
+    CHECK_GUARDED
 };
 
 struct part {

@@ -1,4 +1,4 @@
-/* The two charts that states are made with. */
+/* The charts that states are made with. */
 #ifndef BENCH_CHARTS_H
 #define BENCH_CHARTS_H
 
@@ -9,9 +9,15 @@ struct chart {
     size_t length;
 };
 
-enum which_chart { NO_CHART, SHIFT_CHART, LARGEST_CHART, CHARTS };
+enum which_chart { NO_CHART, SHIFT_CHART, LARGEST_CHART, GUARDED_CHART, CHARTS };
 
-/* Reads both from the files that the two arguments of a program name. */
+/* Signals, as the guarded chart takes them at its state of rest, 6: each is an internal one. */
+enum {
+    TAKES_FIRST = 5, /* by the first of the six rows, which has no flag */
+    TAKES_SIXTH = 6  /* by the last of them, if the flags of the other five are down */
+};
+
+/* Reads the first two from the files that the two arguments of a program name; the guarded one needs none. */
 void read_charts(struct chart charts[CHARTS], int count, char **arguments);
 
 #endif

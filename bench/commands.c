@@ -47,7 +47,7 @@ static void give(const struct bench_case *timed, size_t i, size_t record_length)
 
     trunhoac_command(&kernels[i], timed->record, record_length, chart->bytes, chart->length,
                      areas.payloads, sizeof areas.payloads, areas.tables, sizeof areas.tables,
-                     areas.log, sizeof areas.log, answers[i].reply);
+                     areas.guarded, sizeof areas.guarded, areas.log, sizeof areas.log, answers[i].reply);
 }
 
 static void give_command(const struct bench_case *timed, size_t i)
@@ -75,6 +75,13 @@ static void check_chart(const struct bench_case *timed, size_t i)
     answers[i].class = chart_check(chart->bytes, chart->length);
 }
 
+static void check_guarded_chart(const struct bench_case *timed, size_t i)
+{
+    const struct chart *chart = &charts[timed->chart];
+
+    answers[i].class = chart_check_guarded(chart->bytes, chart->length);
+}
+
 /* How each call is made, and how many bytes it answers. */
 static const struct {
     void (*make)(const struct bench_case *timed, size_t i);
@@ -86,6 +93,7 @@ static const struct {
     [SHORT_COMMAND] = {give_short_command, TRUNHOAC_REPLY_BYTES},
     [READ_PART] = {read_part, sizeof(struct part)},
     [CHECK] = {check_chart, sizeof(uint32_t)},
+    [CHECK_GUARDED] = {check_guarded_chart, sizeof(uint32_t)},
 };
 
 static void fill_batch(const struct state *state)
@@ -118,7 +126,7 @@ static double time_batch(size_t c)
 static void prepare_all(void)
 {
     for (size_t c = 0; c < case_count; c++) {
-        shift_chart_loaded(&states[c], &charts[SHIFT_CHART]);
+        charts_loaded(&states[c], charts);
         cases[c].prepare(&states[c]);
     }
 }

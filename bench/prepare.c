@@ -10,7 +10,7 @@ static void give(struct state *state, const uint8_t *record, const uint8_t *char
 
     trunhoac_command(&state->kernel, record, TRUNHOAC_RECORD_BYTES, chart, chart_length,
                      areas->payloads, sizeof areas->payloads, areas->tables, sizeof areas->tables,
-                     areas->log, sizeof areas->log, reply);
+                     areas->guarded, sizeof areas->guarded, areas->log, sizeof areas->log, reply);
     if (reply[TRUNHOAC_AT_NUMBER] != TRUNHOAC_DONE) {
         fprintf(stderr, "command %d of a preparation is refused: %d\n", record[0], reply[TRUNHOAC_AT_NUMBER]);
         exit(EXIT_FAILURE);

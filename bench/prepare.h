@@ -8,6 +8,7 @@
 struct areas {
     uint8_t payloads[TRUNHOAC_PAYLOAD_AREA];
     uint8_t tables[TRUNHOAC_TABLE_AREA];
+    uint8_t guarded[TRUNHOAC_GUARDED_AREA];
     uint8_t log[TRUNHOAC_LOG_AREA];
 };
 

@@ -51,16 +51,22 @@ static void arm(struct state *state, uint8_t timer, uint16_t ticks)
     prepare(state, trunhoac_fill_arm(record, timer, timer + 1, MOVES, ticks, LONG_TIME));
 }
 
-void shift_chart_loaded(struct state *state, const struct chart *shift)
+void charts_loaded(struct state *state, const struct chart charts[CHARTS])
 {
     prepare_fresh(state);
-    prepare_load(state, 0, shift);
+    prepare_load(state, 0, &charts[SHIFT_CHART]);
+    prepare_load(state, TRUNHOAC_GUARDED_SLOT, &charts[GUARDED_CHART]);
+}
+
+static void all_started_in(struct state *state, uint8_t slot)
+{
+    for (uint8_t p = 1; p <= TRUNHOAC_OBJECTS; p++)
+        prepare_start(state, p, slot);
 }
 
 void all_started(struct state *state)
 {
-    for (uint8_t p = 1; p <= TRUNHOAC_OBJECTS; p++)
-        prepare_start(state, p, 0);
+    all_started_in(state, 0);
 }
 
 void all_but_nine_started(struct state *state)
@@ -199,20 +205,53 @@ void event_of_64_bytes(struct state *state)
 }
 
 /* Round by round through the objects, so that the mailboxes are as full as one another. */
-static void queued(struct state *state, int times)
+static void queued(struct state *state, uint8_t slot, uint8_t signal, int times)
 {
-    all_started(state);
-    make(state, RETURNS, 16);
+    all_started_in(state, slot);
+    make(state, signal, 16);
     for (int queued = 0; queued < times; queued++)
         prepare_post(state, event, (uint8_t)(TRUNHOAC_OBJECTS - queued % TRUNHOAC_OBJECTS));
 }
 
 void queued_16_times(struct state *state)
 {
-    queued(state, 16);
+    queued(state, 0, RETURNS, 16);
 }
 
 void queued_255_times(struct state *state)
 {
-    queued(state, 255);
+    queued(state, 0, RETURNS, 255);
+}
+
+static void guarded_at_nine(struct state *state, uint8_t signal)
+{
+    all_started_in(state, TRUNHOAC_GUARDED_SLOT);
+    make(state, signal, 16);
+    prepare_post(state, event, 9);
+}
+
+void first_row_at_nine(struct state *state)
+{
+    guarded_at_nine(state, TAKES_FIRST);
+}
+
+void sixth_row_at_nine(struct state *state)
+{
+    guarded_at_nine(state, TAKES_SIXTH);
+}
+
+void first_row_in_hand(struct state *state)
+{
+    first_row_at_nine(state);
+    next(state);
+}
+
+void first_row_255_times(struct state *state)
+{
+    queued(state, TRUNHOAC_GUARDED_SLOT, TAKES_FIRST, 255);
+}
+
+void sixth_row_255_times(struct state *state)
+{
+    queued(state, TRUNHOAC_GUARDED_SLOT, TAKES_SIXTH, 255);
 }

@@ -10,10 +10,10 @@ enum {
     MOVES = 6    /* the transition to 4 */
 };
 
-/* Fresh, with the shift chart in slot 0. */
-void shift_chart_loaded(struct state *state, const struct chart *shift);
+/* Fresh, with the shift chart in slot 0 and the guarded chart in slot 4. */
+void charts_loaded(struct state *state, const struct chart charts[CHARTS]);
 
-/* Each of these goes on from there. All sixteen objects are started, with mailboxes of 16 places. */
+/* Each of these goes on from there. All sixteen objects are started in slot 0, with mailboxes of 16 places. */
 void all_started(struct state *state);
 void all_but_nine_started(struct state *state);
 void one_block_of_16_left(struct state *state);
@@ -48,6 +48,17 @@ void event_of_64_bytes(struct state *state);
 /* One event that returns, queued once at each object; and 16 times at each, but 15 at object 1. */
 void queued_16_times(struct state *state);
 void queued_255_times(struct state *state);
+
+/* All sixteen objects are started in slot 4. An event that takes the first row, or the sixth, is queued at object 9. */
+void first_row_at_nine(struct state *state);
+void sixth_row_at_nine(struct state *state);
+
+/* That of the first row is in hand, and queued nowhere. */
+void first_row_in_hand(struct state *state);
+
+/* As those of slot 0: 16 times at each object, but 15 at object 1. */
+void first_row_255_times(struct state *state);
+void sixth_row_255_times(struct state *state);
 
 /* The payload of every event: so many first bytes of these. */
 #define SIXTEEN_BYTES 1, 2, 3, 4, 5, 6, 7, 8, 9, 10, 11, 12, 13, 14, 15, 16

@@ -32,33 +32,39 @@ extern "C" {
 
 /* The kernel's memory, of this size and alignment. What it holds is the kernel's own. */
 struct trunhoac_kernel {
-    uint64_t memory[250];
+    uint64_t memory[258];
 };
 
-/* The lengths of a record, of a reply and of the three areas that the host lends. */
+/* The lengths of a record, of a reply and of the four areas that the host lends. */
 enum {
     TRUNHOAC_HEAD_BYTES = 8, /* of a record: the command and its arguments; the payload follows */
     TRUNHOAC_RECORD_BYTES = 72,
     TRUNHOAC_REPLY_BYTES = 28,
     TRUNHOAC_PAYLOAD_AREA = 1536,
-    TRUNHOAC_TABLE_AREA = 64608,
+    TRUNHOAC_TABLE_AREA = 64608, /* the slots 0 to 3 */
+    TRUNHOAC_GUARDED_AREA = 32280, /* slot 4 */
     TRUNHOAC_LOG_AREA = 7140
 };
 
-/* The most bytes that a chart and a payload have, and the length of a slot, which takes the flat table of one chart. */
+/*
+ * The most bytes that a chart and a payload have, and the length of one of the slots 0 to 3, which takes the flat table
+ * of one plain chart. That of a guarded chart is a whole area, TRUNHOAC_GUARDED_AREA.
+ */
 enum {
     TRUNHOAC_MOST_CHART_BYTES = 5576,
     TRUNHOAC_MOST_PAYLOAD_BYTES = 64,
     TRUNHOAC_SLOT_BYTES = 16152
 };
 
-/* How many there are of each: objects are numbered from 1, their priority; timers, slots and side queues from 0. */
+/* How many of each there are. Objects, by priority, and flags count from 1; timers, slots and side queues from 0. */
 enum {
     TRUNHOAC_OBJECTS = 16,
     TRUNHOAC_MOST_DEPTH = 16,
     TRUNHOAC_TIMERS = 16,
     TRUNHOAC_FIRST_TIMER = 128, /* how a NEXT tells timer 0, in the place of a block */
-    TRUNHOAC_SLOTS = 4,
+    TRUNHOAC_SLOTS = 5,
+    TRUNHOAC_GUARDED_SLOT = 4, /* the one that takes guarded charts, and no other */
+    TRUNHOAC_FLAGS = 8, /* of each object */
     TRUNHOAC_SIDE_QUEUES = 8,
     TRUNHOAC_MOST_ASIDE = 8, /* entries of one side queue */
     TRUNHOAC_FIRST_SIGNAL = 4,
@@ -88,7 +94,8 @@ enum {
     TRUNHOAC_DRAIN = 18,
     TRUNHOAC_DEFER = 19,
     TRUNHOAC_RECALL = 20,
-    TRUNHOAC_FLUSH = 21
+    TRUNHOAC_FLUSH = 21,
+    TRUNHOAC_FLAG = 22
 };
 
 /* The first byte of a reply. After a refusal only the reply is written. */
@@ -108,7 +115,7 @@ enum {
     TRUNHOAC_HOLDS = 12,  /* HOLD at 15, RELEASE at 0 */
     TRUNHOAC_INUSE = 13,  /* DROP of an event that is counted */
     TRUNHOAC_CHART = 14,  /* the chart is refused: the first value is its class */
-    TRUNHOAC_TABLE = 15   /* the row is not sound */
+    TRUNHOAC_TABLE = 15   /* a row that is read is not sound */
 };
 
 /*
@@ -132,13 +139,16 @@ void trunhoac_fresh(struct trunhoac_kernel *kernel);
 /*
  * Answers a record of any length. The chart is read by LOAD alone; the areas
  * may have any length, and a command that uses one of another length than its
- * own is refused.
+ * own is refused. The guarded table is used by a LOAD or START of slot 4, by a
+ * NEXT where the most urgent object with mail runs on that slot, and by every
+ * DRAIN; each of them uses the other tables too.
  */
 void trunhoac_command(struct trunhoac_kernel *kernel,
                       const uint8_t *record, size_t record_length,
                       const uint8_t *chart, size_t chart_length,
                       uint8_t *payloads, size_t payloads_length,
                       uint8_t *tables, size_t tables_length,
+                      uint8_t *guarded, size_t guarded_length,
                       uint8_t *log, size_t log_length,
                       uint8_t reply[TRUNHOAC_REPLY_BYTES]);
 
@@ -153,23 +163,42 @@ void trunhoac_read(const struct trunhoac_kernel *kernel,
                    size_t *place, size_t *length);
 
 /*
- * The chart check and the flattener answer 0 for a good chart, else the lowest
- * class of its faults:
+ * Charts have two editions. A plain chart has up to 24 states, and is loaded
+ * into one of the slots 0 to 3. A guarded chart has up to 8, and is loaded into
+ * slot 4; byte 6 of its rows is 0 or names a flag, 1 to 8. While that flag of
+ * the object is down, the chart is read as if the row were not there. So a
+ * plain chart of up to 8 states is a guarded one too, and does the same there.
+ *
+ * A slot has one flat row for each state and signal. The guarded table has six,
+ * with the flag of each in its byte 21: for the chart's rows from the state
+ * outward, as far as the first without a flag, and then zeros.
+ *
+ * The chart check and the flattener of each edition answer 0 for a good chart,
+ * else the lowest class of its faults:
  *
  *   1  the length is 0, not a multiple of 8, or above 5,576
- *   2  an unknown record kind, kinds out of order, a filler byte that is not 0,
- *      no state or more than 24
+ *   2  an unknown record kind, kinds out of order, a filler byte that is not 0
+ *      (byte 6 of a plain chart's row is one), no state or more than 24, in a
+ *      guarded chart more than 8
  *   3  a fault of the states: parent, level, initial target or action, a parent
  *      without an initial target, top target
- *   4  a fault of the rows: state, signal, kind, target, or their order
- *   5  only from the flattener: the chart is good, but the slot has another length
+ *   4  a fault of the rows: state, signal, kind, target, a flag above 8, or
+ *      their order
+ *   5  only from the flattener: the chart is good, but the slot or the guarded
+ *      table has another length
  *
- * The flattener writes the whole slot when it answers 0, and otherwise nothing.
+ * The flattener writes the whole slot, or table, when it answers 0, and
+ * otherwise nothing.
  */
 uint32_t chart_check(const uint8_t *chart, size_t chart_length);
 
 uint32_t chart_flatten(const uint8_t *chart, size_t chart_length,
                        uint8_t *slot, size_t slot_length);
+
+uint32_t chart_check_guarded(const uint8_t *chart, size_t chart_length);
+
+uint32_t chart_flatten_guarded(const uint8_t *chart, size_t chart_length,
+                               uint8_t *table, size_t table_length);
 
 /*
  * ---- Frames ----
@@ -432,6 +461,15 @@ static inline const uint8_t *trunhoac_fill_recall(uint8_t *record, uint8_t q, ui
 static inline const uint8_t *trunhoac_fill_flush(uint8_t *record, uint8_t q)
 {
     return trunhoac_fill(record, TRUNHOAC_FLUSH, q, 0, 0, 0);
+}
+
+/*
+ * A flag of p is put up by 1 and down by 0; the value is 1 if that changed it. An object, whatever its slot, starts
+ * with its flags down, and they stay as they are while a step is open: FLAG is refused then.
+ */
+static inline const uint8_t *trunhoac_fill_flag(uint8_t *record, uint8_t p, uint8_t flag, uint8_t up)
+{
+    return trunhoac_fill(record, TRUNHOAC_FLAG, p, flag, up, 0);
 }
 
 #ifdef __cplusplus

@@ -15,8 +15,12 @@ use core::ops::Deref;
 
 /// The most bytes that a payload has.
 pub const MOST_PAYLOAD_BYTES: usize = 64;
-/// The length of a slot, which takes the flat table of one chart.
+/// The length of one of the slots 0 to 3, which takes the flat table of one plain chart.
 pub const SLOT_BYTES: usize = 16_152;
+/// The length of the flat table of a guarded chart.
+pub const GUARDED_BYTES: usize = 32_280;
+/// The slot that takes guarded charts, and no other.
+pub const GUARDED_SLOT: u8 = 4;
 /// The length of a reply.
 pub const REPLY_BYTES: usize = 28;
 /// The last generation of a block, whose first is 0: one that is freed at it is retired.
@@ -38,7 +42,7 @@ const TOLD_BYTES: usize = 5 + FRAME_DATA;
 /// A timer's event is told by this number and the timer's own, in the place of a block.
 const FIRST_TIMER: u8 = 128;
 
-const MEMORY_WORDS: usize = 250;
+const MEMORY_WORDS: usize = 258;
 
 /// The kernel's memory. What it holds is the kernel's own.
 #[repr(C)]
@@ -47,7 +51,7 @@ struct Memory {
     words: [u64; MEMORY_WORDS],
 }
 
-const _: () = assert!(size_of::<Memory>() == 2_000 && align_of::<Memory>() == 8);
+const _: () = assert!(size_of::<Memory>() == 2_064 && align_of::<Memory>() == 8);
 
 /// The reader's memory. What it holds is the reader's own.
 #[repr(C)]
@@ -72,6 +76,8 @@ mod library {
             payloads_length: usize,
             tables: *mut u8,
             tables_length: usize,
+            guarded: *mut u8,
+            guarded_length: usize,
             log: *mut u8,
             log_length: usize,
             reply: &mut [u8; REPLY_BYTES],
@@ -92,6 +98,13 @@ mod library {
             slot: *mut u8,
             slot_length: usize,
         ) -> u32;
+        pub fn chart_check_guarded(chart: *const u8, chart_length: usize) -> u32;
+        pub fn chart_flatten_guarded(
+            chart: *const u8,
+            chart_length: usize,
+            table: *mut u8,
+            table_length: usize,
+        ) -> u32;
         pub fn trunhoac_frame_write(
             number: &mut u8,
             kind: u8,
@@ -111,17 +124,31 @@ mod library {
     }
 }
 
-/// Checks a chart. A bad one is refused by [`Refusal::Chart`].
+/// Checks a plain chart. A bad one is refused by [`Refusal::Chart`].
 pub fn chart_check(chart: &[u8]) -> Result<(), Refusal> {
     // SAFETY: the pointer and the length are those of one slice.
     verdict(unsafe { library::chart_check(chart.as_ptr(), chart.len()) })
 }
 
-/// Writes a good chart's flat table into a slot of [`SLOT_BYTES`]; after a refusal the slot is as it was.
+/// Writes a good plain chart's flat table into a slot of [`SLOT_BYTES`]; after a refusal the slot is as it was.
 pub fn chart_flatten(chart: &[u8], slot: &mut [u8]) -> Result<(), Refusal> {
     let (to, length) = (slot.as_mut_ptr(), slot.len());
     // SAFETY: pointers and lengths are those of two slices, and what is borrowed mutably overlaps nothing.
     verdict(unsafe { library::chart_flatten(chart.as_ptr(), chart.len(), to, length) })
+}
+
+/// Checks a guarded chart, whose rows may name a flag and which has at most 8 states. A bad one is refused by
+/// [`Refusal::Chart`].
+pub fn chart_check_guarded(chart: &[u8]) -> Result<(), Refusal> {
+    // SAFETY: the pointer and the length are those of one slice.
+    verdict(unsafe { library::chart_check_guarded(chart.as_ptr(), chart.len()) })
+}
+
+/// Writes a good guarded chart's flat table into one of [`GUARDED_BYTES`]; after a refusal the table is as it was.
+pub fn chart_flatten_guarded(chart: &[u8], table: &mut [u8]) -> Result<(), Refusal> {
+    let (to, length) = (table.as_mut_ptr(), table.len());
+    // SAFETY: pointers and lengths are those of two slices, and what is borrowed mutably overlaps nothing.
+    verdict(unsafe { library::chart_flatten_guarded(chart.as_ptr(), chart.len(), to, length) })
 }
 
 fn verdict(class: u32) -> Result<(), Refusal> {
@@ -147,8 +174,8 @@ pub enum Refusal {
     Dry,        // there is no free block in the pool
     Holds,      // the event has 15 holds, or none to release
     InUse,      // the event is queued, set aside, held or in hand, so it cannot be dropped
-    Chart(u32), // the lowest class of the chart's faults; 5 is a slot of another length
-    Table,      // the row is not sound; one that a LOAD wrote always is
+    Chart(u32), // the lowest class of the chart's faults; 5 is a slot or a table of another length
+    Table,      // a row that is read is not sound; one that a LOAD wrote always is
 }
 
 impl Refusal {
@@ -422,6 +449,7 @@ enum Command {
     Defer,
     Recall,
     Flush,
+    Flag,
 }
 
 /// A record of a command and its arguments; what they leave is 0.
@@ -451,6 +479,7 @@ struct Parts {
     memory: Memory,
     payloads: [u8; PAYLOAD_AREA],
     tables: [u8; TABLE_AREA],
+    guarded: [u8; GUARDED_BYTES],
     log: [[u8; REPLY_BYTES]; LOG_LINES],
 }
 
@@ -471,6 +500,7 @@ impl Kernel {
             },
             payloads: [0; PAYLOAD_AREA],
             tables: [0; TABLE_AREA],
+            guarded: [0; GUARDED_BYTES],
             log: [[0; REPLY_BYTES]; LOG_LINES],
         });
         // SAFETY: the memory has the size and the alignment that the library asks for.
@@ -478,13 +508,14 @@ impl Kernel {
         Kernel { parts }
     }
 
-    /// LOAD: fills a slot with a chart, and answers how many states the chart has.
+    /// LOAD: fills a slot with a chart, and answers how many states the chart has. The slots 0 to 3 take plain charts,
+    /// [`GUARDED_SLOT`] takes guarded ones.
     pub fn load(&mut self, slot: u8, chart: &[u8]) -> Result<u8, Refusal> {
         let record = record(Command::Load, &[slot]);
         Ok(self.answer(&record, chart)?.first())
     }
 
-    /// START: an object begins with a slot's chart and a mailbox of this depth.
+    /// START: an object begins with a slot's chart, a mailbox of this depth and all its flags down.
     pub fn start(&mut self, object: u8, slot: u8, depth: u8) -> Result<Start, Refusal> {
         Ok(self.ask(Command::Start, &[object, slot, depth])?.start())
     }
@@ -628,6 +659,13 @@ impl Kernel {
         Ok(self.ask(Command::Flush, &[side])?.first())
     }
 
+    /// FLAG: puts one of an object's flags, 1 to 8, up or down; answers whether that changed it. While a flag is down, a
+    /// guarded chart is read as if the rows that name it were not there.
+    pub fn flag(&mut self, object: u8, flag: u8, up: bool) -> Result<bool, Refusal> {
+        let reply = self.ask(Command::Flag, &[object, flag, up.into()])?;
+        Ok(reply.first() == 1)
+    }
+
     fn ask_of(
         &mut self,
         command: Command,
@@ -657,6 +695,8 @@ impl Kernel {
                 parts.payloads.len(),
                 parts.tables.as_mut_ptr(),
                 parts.tables.len(),
+                parts.guarded.as_mut_ptr(),
+                parts.guarded.len(),
                 log.as_mut_ptr(),
                 log.len(),
                 &mut reply,

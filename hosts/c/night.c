@@ -1,19 +1,22 @@
 /*
- * The sample night as a host: two devices on the shift chart. This host carries an action out by printing its name.
- * The commands are those of samples/night/commands.txt; what is printed of them comes from the replies.
+ * The sample night as a host: two devices on the shift chart, and an alarm on a chart with a condition. This host
+ * carries an action out by printing its name. The commands are those of samples/night/commands.txt; what is printed of
+ * them comes from the replies.
  */
 #include "trunhoac.h"
 
 #include <stdio.h>
 #include <stdlib.h>
 
-enum { INFUSION_PUMP = 5, VENTILATOR = 9 };                                    /* objects */
-enum { RECORD_LOADED = 5, NOTE = 6, READ_BACK = 8, READING = 9, SIGNED = 11 }; /* signals */
-enum { SHIFT_CHART = 0, REMINDER = 0, EARLY_NOTES = 0 };                       /* a slot, a timer and a side queue */
+enum { INFUSION_PUMP = 5, VENTILATOR = 9, ALARM = 12 };                        /* objects */
+enum { RECORD_LOADED = 5, NOTE = 6, READ_BACK = 8, READING = 9, SIGNED = 11 }; /* signals of the shift chart */
+enum { SILENCE = 14 };                                                         /* and one of the alarm chart */
+enum { SHIFT_SLOT = 0, ALARM_SLOT = TRUNHOAC_GUARDED_SLOT };                   /* slots */
+enum { REMINDER = 0, EARLY_NOTES = 0, NOTE_OPEN = 1 };                         /* a timer, a side queue and a flag */
 enum { SMALL_BLOCKS = 32 };                                                    /* of 16 bytes: all events here fit */
 
 static const char *const devices[TRUNHOAC_OBJECTS + 1] = {
-    [INFUSION_PUMP] = "infusion pump", [VENTILATOR] = "ventilator"};
+    [INFUSION_PUMP] = "infusion pump", [VENTILATOR] = "ventilator", [ALARM] = "ventilator's alarm"};
 static const char *const actions[UINT8_MAX + 1] = {
     [10] = "switch on",              [11] = "open the shift log",    [12] = "close the shift log",
     [13] = "show the ward",          [15] = "begin the shift again", [21] = "light the ready lamp",
@@ -21,16 +24,32 @@ static const char *const actions[UINT8_MAX + 1] = {
     [32] = "save the note",          [33] = "begin a line",          [37] = "date the note",
     [38] = "read the note back",     [40] = "strike the line out",   [41] = "show the keyboard",
     [42] = "hide the keyboard",      [49] = "write down a reading",  [51] = "ask for a signature",
-    [52] = "put the pen away",       [59] = "sign the note",
+    [52] = "put the pen away",       [59] = "sign the note",         [60] = "switch the alarm on",
+    [61] = "watch the pressure",     [62] = "stop the watch",        [63] = "begin with a test",
+    [64] = "ask for a note",         [71] = "sound the alarm",       [72] = "stop the sound",
+    [74] = "write it into the note", [81] = "light the watch lamp",  [82] = "put out the watch lamp",
+    [83] = "name the fault",
+};
+
+/* That of samples/night/chart4.txt. A host may have a chart in its code, as this one, or in a file, as the other. */
+static const uint8_t alarm_chart[] = {
+    3, 1, 60, 0,  0, 0,  0, 0, /* top */
+    1, 0, 61, 62, 2, 63, 0, 0, /* state 1 */
+    1, 1, 71, 72, 0, 0,  0, 0, /* state 2, sounding */
+    1, 1, 81, 82, 0, 0,  0, 0, /* state 3, silent */
+    2, 1, 14, 0,  0, 64, 0, 0, /* the first row */
+    2, 2, 14, 1,  3, 74, 1, 0, /* this one counts while flag 1 is up */
+    2, 3, 13, 1,  2, 83, 0, 0,
 };
 
 static const char *const answers[] = {"DONE", "FORM", "AREA", "RANGE", "BUSY", "NOSTEP", "IDLE", "STALE", "ABSENT",
                                       "TAKEN", "FULL", "DRY", "HOLDS", "INUSE", "CHART", "TABLE"};
 
 static struct trunhoac_kernel kernel;
-static uint8_t chart[TRUNHOAC_MOST_CHART_BYTES + 1]; /* so that a file that is too long is refused, not cut off */
+static const uint8_t *chart; /* for the next LOAD */
 static size_t chart_length;
-static uint8_t payloads[TRUNHOAC_PAYLOAD_AREA], tables[TRUNHOAC_TABLE_AREA], steps[TRUNHOAC_LOG_AREA];
+static uint8_t payloads[TRUNHOAC_PAYLOAD_AREA], tables[TRUNHOAC_TABLE_AREA], guarded[TRUNHOAC_GUARDED_AREA];
+static uint8_t steps[TRUNHOAC_LOG_AREA];
 static uint8_t record[TRUNHOAC_RECORD_BYTES], reply[TRUNHOAC_REPLY_BYTES];
 static const uint8_t *const values = reply + TRUNHOAC_AT_VALUES;
 static uint8_t least_free; /* of the small blocks, as the last NEW told */
@@ -39,7 +58,7 @@ static uint8_t least_free; /* of the small blocks, as the last NEW told */
 static const char *ask(const uint8_t *filled)
 {
     trunhoac_command(&kernel, filled, TRUNHOAC_RECORD_BYTES, chart, chart_length, payloads, sizeof payloads,
-                     tables, sizeof tables, steps, sizeof steps, reply);
+                     tables, sizeof tables, guarded, sizeof guarded, steps, sizeof steps, reply);
     return answers[reply[TRUNHOAC_AT_NUMBER]];
 }
 
@@ -70,20 +89,33 @@ static void carry_out(const uint8_t *step)
     printf("%s\n", step[TRUNHOAC_AT_COUNT] == 0 ? ": nothing to do" : "");
 }
 
+static void load(const char *name, uint8_t slot, const uint8_t *bytes, size_t length)
+{
+    chart = bytes;
+    chart_length = length;
+    demand("LOAD", trunhoac_fill_load(record, slot));
+    printf("The %s chart is loaded: %u states\n", name, values[0]);
+}
+
+static void start(uint8_t device, uint8_t slot, uint8_t depth)
+{
+    demand("START", trunhoac_fill_start(record, device, slot, depth));
+    carry_out(reply);
+}
+
 static void begin(const char *chart_path)
 {
+    static uint8_t bytes[TRUNHOAC_MOST_CHART_BYTES + 1]; /* so that a file that is too long is refused, not cut off */
+    size_t length = 0;
     FILE *file = fopen(chart_path, "rb");
     if (file != NULL) { /* a chart that is not there is refused as an empty one */
-        chart_length = fread(chart, 1, sizeof chart, file);
+        length = fread(bytes, 1, sizeof bytes, file);
         fclose(file);
     }
     trunhoac_fresh(&kernel);
-    demand("LOAD", trunhoac_fill_load(record, SHIFT_CHART));
-    printf("The shift chart is loaded: %u states\n", values[0]);
-    demand("START", trunhoac_fill_start(record, VENTILATOR, SHIFT_CHART, 4));
-    carry_out(reply);
-    demand("START", trunhoac_fill_start(record, INFUSION_PUMP, SHIFT_CHART, 1));
-    carry_out(reply);
+    load("shift", SHIFT_SLOT, bytes, length);
+    start(VENTILATOR, SHIFT_SLOT, 4);
+    start(INFUSION_PUMP, SHIFT_SLOT, 1);
 }
 
 static struct trunhoac_handle make_event(uint8_t signal, const uint8_t *bytes, uint8_t size)
@@ -196,6 +228,21 @@ static void read_and_release(struct trunhoac_handle note)
     printf("Read again: %s\n", ask(trunhoac_fill_read(record, note)));
 }
 
+/* The first time the button finds no note open, and asks for one; the second time it silences the alarm. */
+static void test_alarm(void)
+{
+    load("alarm", ALARM_SLOT, alarm_chart, sizeof alarm_chart);
+    start(ALARM, ALARM_SLOT, 2);
+    struct trunhoac_handle pressed = make_event(SILENCE, NULL, 0);
+    for (int i = 0; i < 2; i++)
+        demand("POST", trunhoac_fill_post(record, pressed, ALARM, 0));
+    printf("The button that silences the alarm is pressed twice: %u queued\n", values[0]);
+    take_step();
+    demand("FLAG", trunhoac_fill_flag(record, ALARM, NOTE_OPEN, 1));
+    printf("A note is open: flag %u %s\n", NOTE_OPEN, values[0] == 1 ? "goes up" : "was up before");
+    take_step();
+}
+
 int main(int argc, char **argv)
 {
     begin(argc == 2 ? argv[1] : "");
@@ -217,6 +264,7 @@ int main(int argc, char **argv)
     sign_note();
     recall_note();
     read_and_release(note);
+    test_alarm();
     printf("The least number of free small blocks tonight: %u of %u\n", least_free, SMALL_BLOCKS);
     return EXIT_SUCCESS;
 }

@@ -1,23 +1,39 @@
-//! The night of samples/night/commands.txt as a host in Rust. Its argument names the file with the shift chart.
+//! The night of samples/night/commands.txt as a host in Rust. Its argument names the file with the shift chart; the
+//! alarm chart stands here.
 
 use std::{env, error::Error, fs};
+use trunhoac::GUARDED_SLOT;
 use trunhoac::{Actions, DrainEnd, Event, Handle, Kernel, Refusal, Released, Step, Ticked};
 
 #[path = "../../include/trunhoac.rs"]
 #[allow(dead_code)] // a night does not use every command
 mod trunhoac;
 
+const ALARM: u8 = 12;
 const VENTILATOR: u8 = 9;
 const INFUSION_PUMP: u8 = 5;
 const SHIFT_CHART: u8 = 0;
 const REMINDER: u8 = 0;
 const EARLY_NOTES: u8 = 0;
+const NOTE_OPEN: u8 = 1;
 const SMALL_BLOCKS: u8 = 32; // of 16 bytes: all events here fit
 const RECORD_LOADED: u8 = 5;
 const FAULT: u8 = 6;
 const SIGN: u8 = 8;
 const READING: u8 = 9;
 const SIGNED: u8 = 11;
+const SILENCE: u8 = 14;
+
+/// That of samples/night/chart4.txt: the top, three states and three rows, of which the second has a flag.
+const ALARM_CHART: [[u8; 8]; 7] = [
+    [3, 1, 60, 0, 0, 0, 0, 0],
+    [1, 0, 61, 62, 2, 63, 0, 0],
+    [1, 1, 71, 72, 0, 0, 0, 0],
+    [1, 1, 81, 82, 0, 0, 0, 0],
+    [2, 1, SILENCE, 0, 0, 64, 0, 0],
+    [2, 2, SILENCE, 1, 3, 74, NOTE_OPEN, 0],
+    [2, 3, 13, 1, 2, 83, 0, 0],
+];
 
 fn main() -> Result<(), Box<dyn Error>> {
     let path = env::args_os().nth(1).ok_or("usage: night CHART")?;
@@ -30,8 +46,9 @@ fn main() -> Result<(), Box<dyn Error>> {
     work_off(&mut kernel)?;
     set_note_aside(&mut kernel)?;
     sign_note(&mut kernel)?;
-    let least_free = recall_note(&mut kernel)?;
+    recall_note(&mut kernel)?;
     read_back(&mut kernel, note)?;
+    let least_free = test_alarm(&mut kernel)?;
     println!("The least number of free small blocks tonight: {least_free} of {SMALL_BLOCKS}");
     Ok(())
 }
@@ -39,10 +56,13 @@ fn main() -> Result<(), Box<dyn Error>> {
 fn begin(kernel: &mut Kernel, chart: &[u8]) -> Result<(), Refusal> {
     let states = kernel.load(SHIFT_CHART, chart)?;
     println!("The shift chart is loaded: {}", counted(states, "state"));
-    for (object, depth) in [(VENTILATOR, 4), (INFUSION_PUMP, 1)] {
-        let start = kernel.start(object, SHIFT_CHART, depth)?;
-        println!("{}: {}", name(start.object), carry_out(&start.actions));
-    }
+    start(kernel, VENTILATOR, SHIFT_CHART, 4)?;
+    start(kernel, INFUSION_PUMP, SHIFT_CHART, 1)
+}
+
+fn start(kernel: &mut Kernel, object: u8, slot: u8, depth: u8) -> Result<(), Refusal> {
+    let start = kernel.start(object, slot, depth)?;
+    println!("{}: {}", name(start.object), carry_out(&start.actions));
     Ok(())
 }
 
@@ -119,11 +139,10 @@ fn sign_note(kernel: &mut Kernel) -> Result<(), Refusal> {
     take_step(kernel)
 }
 
-/// Answers the least number of free small blocks: its NEW is the night's last, and knows of all before it.
-fn recall_note(kernel: &mut Kernel) -> Result<u8, Box<dyn Error>> {
+fn recall_note(kernel: &mut Kernel) -> Result<(), Box<dyn Error>> {
     println!("The infusion pump's device record has loaded");
-    let loaded = kernel.new(RECORD_LOADED, &[])?;
-    kernel.post(loaded.event, INFUSION_PUMP, 0)?;
+    let loaded = kernel.new(RECORD_LOADED, &[])?.event;
+    kernel.post(loaded, INFUSION_PUMP, 0)?;
     open_step(kernel)?;
     let recalled = kernel.recall(EARLY_NOTES, INFUSION_PUMP)?;
     println!("Recalled: {}", counted(recalled.into(), "note"));
@@ -132,8 +151,7 @@ fn recall_note(kernel: &mut Kernel) -> Result<u8, Box<dyn Error>> {
         return Err("the note was expected".into());
     };
     println!("The note that was set aside: {}", payload(kernel, note)?);
-    close_step(kernel)?;
-    Ok(loaded.least_free)
+    Ok(close_step(kernel)?)
 }
 
 fn read_back(kernel: &mut Kernel, note: Handle) -> Result<(), Box<dyn Error>> {
@@ -143,6 +161,24 @@ fn read_back(kernel: &mut Kernel, note: Handle) -> Result<(), Box<dyn Error>> {
     println!("Released: {}, the event {fate}", counted(holds, "hold"));
     println!("Read again: {}", refused(kernel.read(note))?);
     Ok(())
+}
+
+/// The first time the button finds no note open, and asks for one; the second time it silences the alarm.
+/// Answers the least number of free small blocks: its NEW is the night's last, and knows of all before it.
+fn test_alarm(kernel: &mut Kernel) -> Result<u8, Refusal> {
+    let states = kernel.load(GUARDED_SLOT, ALARM_CHART.as_flattened())?;
+    println!("The alarm chart is loaded: {}", counted(states, "state"));
+    start(kernel, ALARM, GUARDED_SLOT, 2)?;
+    let pressed = kernel.new(SILENCE, &[])?;
+    kernel.post(pressed.event, ALARM, 0)?;
+    let queued = kernel.post(pressed.event, ALARM, 0)?;
+    println!("The button that silences the alarm is pressed twice: {queued} queued");
+    take_step(kernel)?;
+    let changed = kernel.flag(ALARM, NOTE_OPEN, true)?;
+    let fate = if changed { "goes up" } else { "was up before" };
+    println!("A note is open: flag {NOTE_OPEN} {fate}");
+    take_step(kernel)?;
+    Ok(pressed.least_free)
 }
 
 fn payload(kernel: &mut Kernel, event: Handle) -> Result<String, Refusal> {
@@ -176,6 +212,7 @@ fn counted(count: u8, what: &str) -> String {
 
 fn name(object: u8) -> &'static str {
     match object {
+        ALARM => "ventilator's alarm",
         VENTILATOR => "ventilator",
         INFUSION_PUMP => "infusion pump",
         _ => "unknown object",
@@ -204,6 +241,17 @@ fn action_name(action: u8) -> &'static str {
         51 => "ask for a signature",
         52 => "put the pen away",
         59 => "sign the note",
+        60 => "switch the alarm on",
+        61 => "watch the pressure",
+        62 => "stop the watch",
+        63 => "begin with a test",
+        64 => "ask for a note",
+        71 => "sound the alarm",
+        72 => "stop the sound",
+        74 => "write it into the note",
+        81 => "light the watch lamp",
+        82 => "put out the watch lamp",
+        83 => "name the fault",
         _ => "unknown action",
     }
 }

@@ -1,9 +1,11 @@
 //! What the sample night does not reach of the wrapper. The values expected are those of documents 01 and 02.
 
 use trunhoac::Refusal::{self, *};
-use trunhoac::{chart_check, chart_flatten, DrainEnd, Event, Frame, Handle, Kernel, New, Outcome};
+use trunhoac::{chart_check, chart_check_guarded, chart_flatten, chart_flatten_guarded};
+use trunhoac::{DrainEnd, Event, Frame, Handle, Kernel, New, Outcome};
 use trunhoac::{Reader, Released, Step, Ticked, Writer};
-use trunhoac::{FRAME_BYTES, FRAME_DATA, LAST_GENERATION, REPLY_BYTES, SLOT_BYTES};
+use trunhoac::{FRAME_BYTES, FRAME_DATA, LAST_GENERATION, REPLY_BYTES};
+use trunhoac::{GUARDED_BYTES, GUARDED_SLOT, SLOT_BYTES};
 
 #[path = "../../include/trunhoac.rs"]
 #[allow(dead_code)] // the night uses the rest
@@ -30,6 +32,22 @@ fn changed(place: usize, byte: u8) -> Vec<u8> {
     chart
 }
 
+/// The shift chart with flag 1 at 2 by 6 and flag 8 at 4 by 9; its row of state 1 is for signal 6 too.
+fn guarded_chart() -> Vec<u8> {
+    let mut chart = changed(50, 6);
+    (chart[62], chart[86]) = (1, 8);
+    chart
+}
+
+/// Object 9 runs that chart.
+fn started_guarded() -> Kernel {
+    let mut kernel = Kernel::fresh();
+    assert_eq!(kernel.load(GUARDED_SLOT, &guarded_chart()), Ok(5));
+    let start = kernel.start(9, GUARDED_SLOT, 1).unwrap();
+    assert_eq!(*start.actions, [10, 11, 13, 21]);
+    kernel
+}
+
 #[test]
 fn each_refusal_has_the_documents_name() {
     let names = "FORM AREA RANGE BUSY NOSTEP IDLE STALE ABSENT TAKEN FULL DRY HOLDS INUSE";
@@ -45,7 +63,10 @@ fn each_refusal_has_the_documents_name() {
 fn the_kernel_refuses() {
     let mut kernel = started(1);
     assert_eq!(kernel.start(17, 0, 1), Err(Range));
+    assert_eq!(kernel.start(3, GUARDED_SLOT + 1, 1), Err(Range));
     assert_eq!(kernel.start(3, 1, 1), Err(Absent));
+    assert_eq!(kernel.start(3, GUARDED_SLOT, 1), Err(Absent));
+    assert_eq!(kernel.load(GUARDED_SLOT + 1, SHIFT_CHART), Err(Range));
     assert_eq!(kernel.load(0, SHIFT_CHART), Err(Taken));
     assert_eq!(kernel.end(), Err(NoStep));
     assert_eq!(kernel.next(), Err(Idle));
@@ -277,6 +298,73 @@ fn side_queues_refuse() {
     assert_eq!(kernel.recall(0, 5), Ok(false));
 }
 
+/// What object 9 makes of a signal.
+fn step_by(kernel: &mut Kernel, signal: u8) -> (Outcome, Vec<u8>) {
+    let event = kernel.new(signal, &[]).unwrap().event;
+    assert_eq!(kernel.post(event, 9, 0), Ok(1));
+    let step = kernel.next().unwrap();
+    assert_eq!((step.object, step.signal), (9, signal));
+    assert_eq!((step.event, kernel.end()), (Event::Block(event), Ok(true)));
+    (step.outcome, step.actions.to_vec())
+}
+
+#[test]
+fn flags_decide_which_rows_count() {
+    let mut kernel = started_guarded();
+    let outer = (Outcome::Transition, vec![15, 22, 12, 11, 13, 21]);
+    assert_eq!(step_by(&mut kernel, 6), outer);
+    assert_eq!(kernel.flag(9, 1, true), Ok(true));
+    assert_eq!(kernel.flag(9, 1, true), Ok(false));
+    let inner = (Outcome::Transition, vec![26, 22, 31, 41]);
+    assert_eq!(step_by(&mut kernel, 6), inner);
+    for (up, outcome) in [
+        (false, (Outcome::Ignored, vec![])),
+        (true, (Outcome::Internal, vec![49])),
+    ] {
+        assert_eq!(kernel.flag(9, 8, up), Ok(up));
+        assert_eq!(step_by(&mut kernel, 9), outcome);
+    }
+    assert_eq!(kernel.flag(9, 8, false), Ok(true));
+    assert_eq!(step_by(&mut kernel, 9), (Outcome::Ignored, vec![]));
+}
+
+#[test]
+fn drained_steps_look_at_the_flags() {
+    let mut kernel = started_guarded();
+    assert_eq!(kernel.load(0, SHIFT_CHART), Ok(5));
+    assert!(kernel.start(5, 0, 1).is_ok());
+    let event = kernel.new(6, &[]).unwrap().event;
+    for (object, flag) in [(9, 2), (5, 1)] {
+        assert_eq!(kernel.flag(object, flag, true), Ok(true));
+        assert_eq!(kernel.post(event, object, 0), Ok(1));
+    }
+    let steps: Vec<Step> = kernel.drain(255).unwrap().log().collect();
+    assert_eq!((steps[0].object, steps[1].object, steps.len()), (9, 5, 2));
+    assert_eq!(*steps[0].actions, [15, 22, 12, 11, 13, 21]);
+    assert_eq!(*steps[1].actions, [26, 22, 31, 41]);
+}
+
+#[test]
+fn flags_are_refused() {
+    let mut kernel = started(1);
+    for (object, flag) in [(0, 1), (17, 1), (9, 0), (9, 9)] {
+        assert_eq!(kernel.flag(object, flag, true), Err(Range));
+    }
+    assert_eq!(kernel.flag(3, 1, true), Err(Absent));
+    let event = kernel.new(6, &[]).unwrap().event;
+    assert_eq!(kernel.post(event, 9, 0), Ok(1));
+    assert!(kernel.next().is_ok());
+    assert_eq!(kernel.flag(9, 9, true), Err(Range));
+    assert_eq!(
+        (kernel.flag(9, 8, true), kernel.flag(3, 8, true)),
+        (Err(Busy), Err(Busy))
+    );
+    assert_eq!(kernel.end(), Ok(true));
+    assert_eq!(kernel.flag(9, 8, true), Ok(true));
+    assert_eq!(kernel.start(3, 0, 1).map(|start| start.object), Ok(3));
+    assert_eq!(kernel.flag(3, 8, false), Ok(false));
+}
+
 #[test]
 fn charts_are_refused_by_class() {
     let mut without_start = changed(28, 0);
@@ -303,6 +391,64 @@ fn charts_are_refused_by_class() {
     assert_eq!(slot[SLOT_BYTES], 7);
 }
 
+/// A top initial transition, and so many states in nothing.
+fn states(count: usize) -> Vec<u8> {
+    let mut chart = vec![3, 1, 0, 0, 0, 0, 0, 0];
+    chart.extend([1, 0, 0, 0, 0, 0, 0, 0].repeat(count));
+    chart
+}
+
+#[test]
+fn guarded_charts_are_refused_by_class() {
+    let mut flag_nine = guarded_chart();
+    flag_nine[86] = 9;
+    let bad = [
+        (1, vec![]),
+        (2, states(9)),
+        (2, changed(55, 1)), // the byte behind the flag
+        (3, changed(9, 1)),
+        (4, flag_nine),
+    ];
+    for (class, chart) in bad {
+        assert_eq!(chart_check_guarded(&chart), Err(Chart(class)));
+        assert_eq!(chart_flatten_guarded(&chart, &mut []), Err(Chart(class)));
+        let loaded = Kernel::fresh().load(GUARDED_SLOT, &chart);
+        assert_eq!(loaded, Err(Chart(class)));
+    }
+    assert_eq!(chart_check_guarded(&states(8)), Ok(()));
+    assert_eq!(
+        (chart_check(&states(9)), chart_check(&states(24))),
+        (Ok(()), Ok(()))
+    );
+    assert_eq!(chart_check(&guarded_chart()), Err(Chart(2)));
+    assert_eq!(Kernel::fresh().load(3, &guarded_chart()), Err(Chart(2)));
+}
+
+#[test]
+fn guarded_charts_are_flattened() {
+    let chart = guarded_chart();
+    let mut table = vec![7; GUARDED_BYTES + 1];
+    assert_eq!(chart_check_guarded(&chart), Ok(()));
+    for length in [0, SLOT_BYTES, GUARDED_BYTES - 1, GUARDED_BYTES + 1] {
+        let refused = chart_flatten_guarded(&chart, &mut table[..length]);
+        assert_eq!(refused, Err(Chart(5)));
+    }
+    assert_eq!(table, vec![7; GUARDED_BYTES + 1]);
+    assert_eq!(
+        chart_flatten_guarded(&chart, &mut table[..GUARDED_BYTES]),
+        Ok(())
+    );
+    // state 2 and signal 6: its own row with flag 1, that of state 1 without, then four rows of zeros
+    let (own, outer, none) = (&table[4344..4368], &table[4368..4392], &table[4392..4488]);
+    assert_eq!((&own[..7], own[21]), (&[4, 2, 4, 26, 22, 31, 41][..], 1));
+    assert_eq!(
+        (&outer[..9], outer[21]),
+        (&[2, 2, 6, 15, 22, 12, 11, 13, 21][..], 0)
+    );
+    assert_eq!(none, [0; 96]);
+    assert_eq!(table[GUARDED_BYTES], 7);
+}
+
 #[test]
 fn no_row_is_unsound() {
     let mut kernel = Kernel::fresh();
@@ -311,6 +457,15 @@ fn no_row_is_unsound() {
     let mut kernel = started(1);
     for signal in (4..=31).cycle().take(280) {
         let event = kernel.new(signal, &[]).unwrap().event;
+        assert_eq!(kernel.post(event, 9, 0), Ok(1));
+        assert_eq!(kernel.drain(2).unwrap().end, DrainEnd::Empty);
+    }
+    let mut kernel = started_guarded();
+    for signal in (4..=31).cycle().take(2800) {
+        let event = kernel.new(signal, &[]).unwrap().event;
+        let generation = event.generation();
+        assert!(kernel.flag(9, 1, generation % 3 == 1).is_ok());
+        assert!(kernel.flag(9, 8, generation % 5 == 1).is_ok());
         assert_eq!(kernel.post(event, 9, 0), Ok(1));
         assert_eq!(kernel.drain(2).unwrap().end, DrainEnd::Empty);
     }

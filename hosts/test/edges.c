@@ -15,9 +15,11 @@ enum { FIRST_LARGE_BLOCK = 48, LAST_LARGE_BLOCK = 55 };
 
 enum { LAST_OBJECT = TRUNHOAC_OBJECTS, LAST_SIDE = TRUNHOAC_SIDE_QUEUES - 1, MOVES = 6 };
 
+enum { LAST_PLAIN_SLOT = TRUNHOAC_GUARDED_SLOT - 1 };
+
 static struct {
     struct trunhoac_kernel *kernel;
-    uint8_t *record, *chart, *payloads, *tables, *log, *reply, *slot;
+    uint8_t *record, *chart, *guarded_chart, *payloads, *tables, *guarded, *log, *reply, *slot, *guarded_table;
     size_t *place, *length;
 } lent;
 
@@ -48,11 +50,14 @@ static void lend_all(enum side side)
     lent.kernel = lend(sizeof *lent.kernel, side);
     lent.record = lend(TRUNHOAC_RECORD_BYTES, side);
     lent.chart = lend(two_states.length, side);
+    lent.guarded_chart = lend(six_levels.length, side);
     lent.payloads = lend(TRUNHOAC_PAYLOAD_AREA, side);
     lent.tables = lend(TRUNHOAC_TABLE_AREA, side);
+    lent.guarded = lend(TRUNHOAC_GUARDED_AREA, side);
     lent.log = lend(TRUNHOAC_LOG_AREA, side);
     lent.reply = lend(TRUNHOAC_REPLY_BYTES, side);
     lent.slot = lend(TRUNHOAC_SLOT_BYTES, side);
+    lent.guarded_table = lend(TRUNHOAC_GUARDED_AREA, side);
     lent.place = lend(sizeof *lent.place, side);
     lent.length = lend(sizeof *lent.length, side);
     framed.number = lend(sizeof *framed.number, side);
@@ -64,12 +69,17 @@ static void lend_all(enum side side)
     framed.read = lend(sizeof *framed.read, side);
 }
 
+static void done_with(const uint8_t *filled, const uint8_t *chart, size_t chart_length)
+{
+    trunhoac_command(lent.kernel, filled, TRUNHOAC_RECORD_BYTES, chart, chart_length,
+                     lent.payloads, TRUNHOAC_PAYLOAD_AREA, lent.tables, TRUNHOAC_TABLE_AREA,
+                     lent.guarded, TRUNHOAC_GUARDED_AREA, lent.log, TRUNHOAC_LOG_AREA, lent.reply);
+    expect(lent.reply[TRUNHOAC_AT_NUMBER] == TRUNHOAC_DONE, "the command is done");
+}
+
 static void done(const uint8_t *filled)
 {
-    trunhoac_command(lent.kernel, filled, TRUNHOAC_RECORD_BYTES, lent.chart, two_states.length,
-                     lent.payloads, TRUNHOAC_PAYLOAD_AREA, lent.tables, TRUNHOAC_TABLE_AREA,
-                     lent.log, TRUNHOAC_LOG_AREA, lent.reply);
-    expect(lent.reply[TRUNHOAC_AT_NUMBER] == TRUNHOAC_DONE, "the command is done");
+    done_with(filled, lent.chart, two_states.length);
 }
 
 /* The first block, and the pool of the last: that one runs empty, and each NEW tells how many are left. */
@@ -112,17 +122,29 @@ static void use_side_queues(void)
     expect(lent.reply[TRUNHOAC_AT_VALUES] == TRUNHOAC_MOST_ASIDE - 1, "all entries are let go but the one recalled");
 }
 
-/* The first and the last of what there is: slots, blocks, objects, places of a mailbox, lines of the log. */
-static void use_edges(void)
+/* The last plain slot and the guarded one get an object by turns, the first and the last object a flag. */
+static void start_all(void)
 {
     uint8_t *record = lent.record;
-    struct trunhoac_handle first = {0}, last = {.block = LAST_LARGE_BLOCK};
 
     trunhoac_fresh(lent.kernel);
     done(trunhoac_fill_load(record, 0));
-    done(trunhoac_fill_load(record, TRUNHOAC_SLOTS - 1));
+    done(trunhoac_fill_load(record, LAST_PLAIN_SLOT));
+    done_with(trunhoac_fill_load(record, TRUNHOAC_GUARDED_SLOT), lent.guarded_chart, six_levels.length);
     for (uint8_t p = 1; p <= LAST_OBJECT; p++)
-        done(trunhoac_fill_start(record, p, TRUNHOAC_SLOTS - 1, TRUNHOAC_MOST_DEPTH));
+        done(trunhoac_fill_start(record, p, p % 2 == 1 ? LAST_PLAIN_SLOT : TRUNHOAC_GUARDED_SLOT, TRUNHOAC_MOST_DEPTH));
+    done(trunhoac_fill_flag(record, 1, 1, 1));
+    done(trunhoac_fill_flag(record, LAST_OBJECT, TRUNHOAC_FLAGS, 1));
+}
+
+/* The first and the last of what there is: slots, blocks, objects, places of a mailbox, flat rows, lines of the log. */
+static void use_edges(void)
+{
+    static const uint8_t by_last_row[] = {0, LAST_OBJECT, 32 + TRUNHOAC_LAST_SIGNAL, 1, 0, 0, 19};
+    uint8_t *record = lent.record;
+    struct trunhoac_handle first = {0}, last = {.block = LAST_LARGE_BLOCK};
+
+    start_all();
     take_blocks();
     for (int place = 0; place < TRUNHOAC_MOST_DEPTH; place++)
         for (uint8_t p = 1; p <= LAST_OBJECT; p++)
@@ -136,6 +158,7 @@ static void use_edges(void)
     expect(*lent.place + *lent.length == TRUNHOAC_PAYLOAD_AREA, "the last block ends where its area does");
     done(trunhoac_fill_drain(record, UINT8_MAX));
     expect(lent.reply[TRUNHOAC_AT_VALUES] == UINT8_MAX, "the log is full");
+    expect(memcmp(lent.log, by_last_row, sizeof by_last_row) == 0, "the last row of the guarded table is taken");
 }
 
 /* The longest frame, which fills its area: 30 times 0x7E and 65 times 0x7D. Then a stretch that is no frame's. */
@@ -157,6 +180,17 @@ static void use_frames(void)
     expect(*framed.read == length && framed.frame->complete == 0, "a piece is read to its end");
 }
 
+static void use_chart_calls(void)
+{
+    expect(chart_check(lent.chart, two_states.length) == 0, "the chart is good");
+    expect(chart_flatten(lent.chart, two_states.length, lent.slot, TRUNHOAC_SLOT_BYTES) == 0, "and is flattened");
+    expect(memcmp(lent.slot, lent.tables, TRUNHOAC_SLOT_BYTES) == 0, "as the kernel flattens it");
+    expect(chart_check_guarded(lent.guarded_chart, six_levels.length) == 0, "the guarded chart is good");
+    expect(chart_flatten_guarded(lent.guarded_chart, six_levels.length, lent.guarded_table, TRUNHOAC_GUARDED_AREA) == 0,
+           "and is flattened");
+    expect(memcmp(lent.guarded_table, lent.guarded, TRUNHOAC_GUARDED_AREA) == 0, "as the kernel flattens it");
+}
+
 static void test_side(enum side side)
 {
     lend_all(side);
@@ -164,10 +198,9 @@ static void test_side(enum side side)
     if (!is_lent)
         return;
     memcpy(lent.chart, two_states.bytes, two_states.length);
+    memcpy(lent.guarded_chart, six_levels.bytes, six_levels.length);
     use_edges();
-    expect(chart_check(lent.chart, two_states.length) == 0, "the chart is good");
-    expect(chart_flatten(lent.chart, two_states.length, lent.slot, TRUNHOAC_SLOT_BYTES) == 0, "and is flattened");
-    expect(memcmp(lent.slot, lent.tables, TRUNHOAC_SLOT_BYTES) == 0, "as the kernel flattens it");
+    use_chart_calls();
     use_frames();
 }
 

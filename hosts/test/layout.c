@@ -6,7 +6,8 @@
  */
 #include "test.h"
 
-enum { BLOCKS = 56, POOLS = 3, OBJECTS = 16, PLACES = 16, SIDES = 8, SIGNAL_PLACES = 32, SLOTS = 4, TIMERS = 16 };
+enum { BLOCKS = 56, POOLS = 3, OBJECTS = 16, PLACES = 16, SIDES = 8, SIGNAL_PLACES = 32, TIMERS = 16 };
+enum { SLOTS = 5, FLAGS = 8 };
 enum { RETIRED = 0xFFFF }; /* the count of a retired block, and of no live one */
 enum { UNESCAPED = 96 }; /* the most bytes of a frame, unescaped */
 
@@ -21,6 +22,7 @@ struct kernel {
     uint16_t places[OBJECTS * PLACES]; /* 1 + b is block b, 64 + 32 t + g timer t with signal g */
     uint16_t side_places[SIDES * PLACES]; /* blocks alone */
     uint8_t wants[OBJECTS * SIGNAL_PLACES];
+    uint64_t flags[FLAGS]; /* of each flag: the digit of each object whose flag is up, by its priority */
     uint8_t signals[BLOCKS];
     uint8_t sizes[BLOCKS];
     uint8_t holds[BLOCKS];
@@ -66,14 +68,16 @@ static const struct trunhoac_handle last_block = {.block = BLOCKS - 1};
 static uint8_t record[TRUNHOAC_RECORD_BYTES];
 static struct kernel k; /* as the library left it */
 
-/* The fields before the pool, the pool's and those behind it; what lies between them is a gap, and nobody's. */
+/* Three stretches of fields that have no gap in them; what lies between the stretches is nobody's. */
 enum {
-    BEFORE_POOL = offsetof(struct kernel, hand) + sizeof k.hand,
-    POOL = offsetof(struct kernel, pool),
-    POOL_END = POOL + offsetof(struct pool, marks) + sizeof k.pool.marks,
+    BEFORE_COUNTERS = offsetof(struct kernel, alarms) + sizeof k.alarms,
+    COUNTERS = offsetof(struct kernel, counters),
+    POOL_END = offsetof(struct kernel, pool) + offsetof(struct pool, marks) + sizeof k.pool.marks,
     BEHIND_POOL = offsetof(struct kernel, heads)
 };
 
+_Static_assert(offsetof(struct kernel, hand) + sizeof k.hand == offsetof(struct kernel, pool),
+               "the pool follows the hand");
 _Static_assert(offsetof(struct kernel, rests) + sizeof k.rests == sizeof k, "no gap behind the last field");
 
 static void take_kernel(void)
@@ -110,7 +114,7 @@ static void test_fresh(void)
     lend_fresh(FILL);
     take_kernel();
     lend_fresh(FILL / 2);
-    expect(same_bytes(0, BEFORE_POOL) && same_bytes(POOL, POOL_END) && same_bytes(BEHIND_POOL, sizeof k),
+    expect(same_bytes(0, BEFORE_COUNTERS) && same_bytes(COUNTERS, POOL_END) && same_bytes(BEHIND_POOL, sizeof k),
            "a fresh start writes every byte");
     expect(k.pool.free == ((uint64_t)1 << BLOCKS) - 1, "every block is free");
 }
@@ -188,7 +192,7 @@ static void test_marks(void)
     expect_marks(30, 15, 7);
 }
 
-/* A fresh kernel with the objects 1 and 16 on the charts of the slots 0 and 3. */
+/* A fresh kernel with the objects 1 and 16 on the charts of the slots 0 and 4. */
 static void start_objects(void)
 {
     lend_fresh(FILL);
@@ -210,6 +214,23 @@ static void test_objects(void)
     done(trunhoac_fill_subscribe(record, OBJECTS, 31));
     expect(k.wants[4] == 1 && k.wants[5] == 0, "the first subscription");
     expect(k.wants[OBJECTS * SIGNAL_PLACES - 1] == 1, "the last subscription");
+}
+
+static uint64_t digit_of(unsigned object)
+{
+    return (uint64_t)1 << object;
+}
+
+static void test_flags(void)
+{
+    start_objects();
+    done(trunhoac_fill_flag(record, 1, 1, 1));
+    done(trunhoac_fill_flag(record, OBJECTS, 1, 1));
+    done(trunhoac_fill_flag(record, OBJECTS, FLAGS, 1));
+    expect(k.flags[0] == (digit_of(1) | digit_of(OBJECTS)), "the first flag, up at the first object and at the last");
+    expect(k.flags[1] == 0 && k.flags[FLAGS - 1] == digit_of(OBJECTS), "the last flag");
+    done(trunhoac_fill_flag(record, 1, 1, 0));
+    expect(k.flags[0] == digit_of(OBJECTS), "the first object's is down again");
 }
 
 /* The entries of an object, counted from 0 as here all are, stand in a ring from its head on. */
@@ -336,6 +357,7 @@ void test_layout(void)
     test_generations();
     test_marks();
     test_objects();
+    test_flags();
     test_mail();
     test_side_queues();
     test_timers();

@@ -23,6 +23,8 @@ struct memory {
     uint8_t payloads[TRUNHOAC_PAYLOAD_AREA];
     uint8_t before_tables[GUARD_BYTES];
     uint8_t tables[TRUNHOAC_TABLE_AREA];
+    uint8_t before_guarded[GUARD_BYTES];
+    uint8_t guarded[TRUNHOAC_GUARDED_AREA];
     uint8_t before_log[GUARD_BYTES];
     uint8_t log[TRUNHOAC_LOG_AREA];
     uint8_t before_reply[GUARD_BYTES];
@@ -49,6 +51,7 @@ void lend_fresh(uint8_t fill)
     memset(&lent, fill, sizeof lent);
     memset(lent.payloads, 0, sizeof lent.payloads);
     memset(lent.tables, 0, sizeof lent.tables);
+    memset(lent.guarded, 0, sizeof lent.guarded);
     memset(lent.log, 0, sizeof lent.log);
     before_call();
     trunhoac_fresh(&lent.kernel);
@@ -59,6 +62,11 @@ void lend_fresh(uint8_t fill)
 struct trunhoac_kernel *lent_kernel(void)
 {
     return &lent.kernel;
+}
+
+uint8_t *lent_guarded(void)
+{
+    return lent.guarded;
 }
 
 static void ask_where(size_t record_length)
@@ -98,9 +106,9 @@ static void expect_written(size_t chart_length)
         if (lent.record[0] == TRUNHOAC_NEW)
             write_payload(due.payloads, lent.record, lent.reply);
         if (lent.record[0] == TRUNHOAC_LOAD)
-            write_table(due.tables, lent.record, lent.chart, chart_length);
+            write_table(due.tables, due.guarded, lent.record, lent.chart, chart_length);
         if (lent.record[0] == TRUNHOAC_DRAIN)
-            write_log(due.log, due.kernel, due.tables, lent.reply[TRUNHOAC_AT_VALUES]);
+            write_log(due.log, due.kernel, due.tables, due.guarded, lent.reply[TRUNHOAC_AT_VALUES]);
         if (lent.record[0] != TRUNHOAC_READ)
             due.kernel = lent.kernel;
     }
@@ -118,7 +126,7 @@ const uint8_t *command(const uint8_t *record, size_t length, const struct chart 
     before_call();
     trunhoac_command(&lent.kernel, lent.record, length, chart->length == 0 ? NULL : lent.chart, chart->length,
                      lent.payloads, sizeof lent.payloads, lent.tables, sizeof lent.tables,
-                     lent.log, sizeof lent.log, lent.reply);
+                     lent.guarded, sizeof lent.guarded, lent.log, sizeof lent.log, lent.reply);
     expect_written(chart->length);
     expect_where(length);
     return lent.reply;

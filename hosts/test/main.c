@@ -15,6 +15,7 @@ int main(int argc, char **argv)
     test_layout();
     test_lives();
     test_areas();
+    test_guarded();
     test_edges();
     test_records();
     test_frames();

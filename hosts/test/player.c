@@ -1,12 +1,7 @@
-/* Has a record answered, with the chart of a LOAD from a folder: chart0 to chart3. */
+/* Has a record answered, with the chart of a LOAD from a folder: chart0 to chart4. */
 #include "test.h"
 
 enum { MOST_PATH = 1024 };
-
-const struct chart two_states = {
-    .length = 32,
-    .bytes = {3, 1, 0, 0, 0, 0, 0, 0, 1, 0, 0, 0, 0, 0, 0, 0, 1, 0, 0, 0, 0, 0, 0, 0, 2, 1, 6, 1, 2, 0, 0, 0},
-};
 
 FILE *open_in(const char *folder, const char *name)
 {

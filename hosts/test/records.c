@@ -35,7 +35,7 @@ static void test_events(void)
 
 static void test_other_commands(void)
 {
-    expect_record(trunhoac_fill_load(record, 3), "1 3");
+    expect_record(trunhoac_fill_load(record, TRUNHOAC_GUARDED_SLOT), "1 4");
     expect_record(trunhoac_fill_start(record, 9, 3, 4), "2 9 3 4");
     expect_record(trunhoac_fill_next(record), "12");
     expect_record(trunhoac_fill_end(record), "13");
@@ -46,6 +46,8 @@ static void test_other_commands(void)
     expect_record(trunhoac_fill_defer(record, 7), "19 7");
     expect_record(trunhoac_fill_recall(record, 7, 9), "20 7 9");
     expect_record(trunhoac_fill_flush(record, 7), "21 7");
+    expect_record(trunhoac_fill_flag(record, 9, 8, 1), "22 9 8 1");
+    expect_record(trunhoac_fill_flag(record, 9, 8, 0), "FLAG 9 8");
 }
 
 /* The answers to a NEXT of signal 31, a transition: of an event with a block, and of the last timer's; and to a NEW. */
@@ -78,8 +80,12 @@ static void test_generations(void)
 static void test_lengths(void)
 {
     expect(TRUNHOAC_RECORD_BYTES == 72 && TRUNHOAC_REPLY_BYTES == 28, "the lengths of a record and of a reply");
-    expect(TRUNHOAC_PAYLOAD_AREA == 1536 && TRUNHOAC_TABLE_AREA == 64608 && TRUNHOAC_LOG_AREA == 7140,
+    expect(TRUNHOAC_PAYLOAD_AREA == 1536 && TRUNHOAC_TABLE_AREA == 64608 && TRUNHOAC_GUARDED_AREA == 32280
+               && TRUNHOAC_LOG_AREA == 7140,
            "the lengths of the areas");
+    expect(TRUNHOAC_TABLE_AREA == TRUNHOAC_GUARDED_SLOT * TRUNHOAC_SLOT_BYTES && TRUNHOAC_SLOTS == 5,
+           "the slots before the guarded one fill the tables");
+    expect(TRUNHOAC_FLAGS == 8, "the flags of an object");
 }
 
 static void test_numbers(void)

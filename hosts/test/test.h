@@ -35,6 +35,7 @@ static inline uint8_t *start_of(uint8_t *bytes, size_t length)
 void lend_fresh(uint8_t fill);
 const uint8_t *command(const uint8_t *record, size_t length, const struct chart *chart);
 struct trunhoac_kernel *lent_kernel(void);
+uint8_t *lent_guarded(void); /* the guarded table, for a test that writes to it as somebody else might */
 
 /* layout.c: makes the block of the lent kernel as if it had been freed so often. */
 void set_generation(size_t block, uint32_t generation);
@@ -50,11 +51,14 @@ const struct trunhoac_frame *feed(const uint8_t *piece, size_t length, size_t *r
 /* written.c: what a command that is done has to write to an area, and where a block stands. */
 size_t place_of(size_t block);
 void write_payload(uint8_t *payloads, const uint8_t *record, const uint8_t *reply);
-void write_table(uint8_t *tables, const uint8_t *record, const uint8_t *chart, size_t chart_length);
-void write_log(uint8_t *log, struct trunhoac_kernel kernel, uint8_t *tables, size_t steps);
+void write_table(uint8_t *tables, uint8_t *guarded, const uint8_t *record, const uint8_t *chart, size_t chart_length);
+void write_log(uint8_t *log, struct trunhoac_kernel kernel, uint8_t *tables, uint8_t *guarded, size_t steps);
 
-/* player.c: has a record answered, with the chart of a LOAD from a folder; and a chart that needs none. */
-extern const struct chart two_states; /* signal 6 leads from the first to the second */
+/* charts.c: charts that need no file. */
+extern const struct chart two_states; /* of both editions: signal 6 leads from the first to the second */
+extern const struct chart six_levels; /* guarded: each level has a row for the last signal, and each row a flag */
+
+/* player.c: has a record answered, with the chart of a LOAD from a folder. */
 const uint8_t *answer(const char *folder, const uint8_t *record, size_t length);
 FILE *open_in(const char *folder, const char *name);
 
@@ -76,6 +80,7 @@ unsigned long test_frame_cases(const char *folder);
 void test_layout(void);
 void test_lives(void);
 void test_areas(void);
+void test_guarded(void);
 void test_edges(void);
 void test_records(void);
 void test_frames(void);

@@ -3,7 +3,7 @@
  *     POST 0 0 9 2 = 0 0 0 0 1
  *     NEW 6 20 = 0 0 0 15 @ 32 1
  * A number for a name is the first byte of a record, PIECE a record of just the bytes that follow, FRESH a mark.
- * TOP, STATE and ROW are the records of a chart, which have no reply.
+ * TOP, STATE and ROW are the records of a chart, which have no reply; a flag is the last number of a ROW.
  */
 #include "test.h"
 
@@ -14,6 +14,8 @@
 enum { GENERATION = 2, ARM_TICKS = 4, NEW_UNUSED = 3, PAYLOAD = 8, CHART_RECORD_BYTES = 8 };
 
 enum { STATE = 1, ROW, TOP };
+
+enum { LAST_COMMAND = TRUNHOAC_FLAG };
 
 static const char *const names[] = {
     [TRUNHOAC_LOAD] = "LOAD",           [TRUNHOAC_START] = "START",
@@ -26,11 +28,11 @@ static const char *const names[] = {
     [TRUNHOAC_DISARM] = "DISARM",       [TRUNHOAC_TICK] = "TICK",
     [TRUNHOAC_READ] = "READ",           [TRUNHOAC_DRAIN] = "DRAIN",
     [TRUNHOAC_DEFER] = "DEFER",         [TRUNHOAC_RECALL] = "RECALL",
-    [TRUNHOAC_FLUSH] = "FLUSH",
+    [TRUNHOAC_FLUSH] = "FLUSH",         [TRUNHOAC_FLAG] = "FLAG",
 };
 
 /* The commands whose first two numbers are a handle. */
-static const bool names_event[TRUNHOAC_FLUSH + 1] = {
+static const bool names_event[LAST_COMMAND + 1] = {
     [TRUNHOAC_POST] = true,    [TRUNHOAC_POSTFRONT] = true, [TRUNHOAC_PUBLISH] = true, [TRUNHOAC_HOLD] = true,
     [TRUNHOAC_RELEASE] = true, [TRUNHOAC_DROP] = true,      [TRUNHOAC_READ] = true,
 };
@@ -81,7 +83,7 @@ static bool put(struct line *line, uint8_t name, size_t *at, const char *word)
 static bool read_record(struct line *line, const char *first)
 {
     bool is_piece = strcmp(first, "PIECE") == 0;
-    uint8_t name = number_of(first, names, TRUNHOAC_FLUSH);
+    uint8_t name = number_of(first, names, LAST_COMMAND);
     uint8_t kind = number_of(first, kinds, TOP);
     size_t at = 0;
 

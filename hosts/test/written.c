@@ -20,25 +20,29 @@ void write_payload(uint8_t *payloads, const uint8_t *record, const uint8_t *repl
     memcpy(payloads + place_of(block), record + PAYLOAD, record[2]);
 }
 
-/* LOAD: the slot as the flattener fills it. */
-void write_table(uint8_t *tables, const uint8_t *record, const uint8_t *chart, size_t chart_length)
+/* LOAD: the slot as the flattener of its edition fills it. */
+void write_table(uint8_t *tables, uint8_t *guarded, const uint8_t *record, const uint8_t *chart, size_t chart_length)
 {
-    if (record[1] < TRUNHOAC_SLOTS)
-        chart_flatten(chart, chart_length, tables + (size_t)record[1] * TRUNHOAC_SLOT_BYTES, TRUNHOAC_SLOT_BYTES);
+    size_t slot = record[1];
+    if (slot == TRUNHOAC_GUARDED_SLOT)
+        chart_flatten_guarded(chart, chart_length, guarded, TRUNHOAC_GUARDED_AREA);
+    else if (slot < TRUNHOAC_SLOTS)
+        chart_flatten(chart, chart_length, tables + slot * TRUNHOAC_SLOT_BYTES, TRUNHOAC_SLOT_BYTES);
 }
 
-static void ask(struct trunhoac_kernel *kernel, const uint8_t *record, uint8_t *tables, uint8_t *reply)
+static void ask(struct trunhoac_kernel *kernel, const uint8_t *record, uint8_t *tables, uint8_t *guarded,
+                uint8_t *reply)
 {
-    trunhoac_command(kernel, record, TRUNHOAC_RECORD_BYTES, NULL, 0, NULL, 0, tables, TRUNHOAC_TABLE_AREA, NULL, 0,
-                     reply);
+    trunhoac_command(kernel, record, TRUNHOAC_RECORD_BYTES, NULL, 0, NULL, 0, tables, TRUNHOAC_TABLE_AREA,
+                     guarded, TRUNHOAC_GUARDED_AREA, NULL, 0, reply);
 }
 
 /* DRAIN: for each step what NEXT answers, with END after it. The kernel is a copy, and goes on step by step. */
-void write_log(uint8_t *log, struct trunhoac_kernel kernel, uint8_t *tables, size_t steps)
+void write_log(uint8_t *log, struct trunhoac_kernel kernel, uint8_t *tables, uint8_t *guarded, size_t steps)
 {
     uint8_t record[TRUNHOAC_RECORD_BYTES], end[TRUNHOAC_REPLY_BYTES];
     for (size_t i = 0; i < steps; i++) {
-        ask(&kernel, trunhoac_fill_next(record), tables, log + i * TRUNHOAC_REPLY_BYTES);
-        ask(&kernel, trunhoac_fill_end(record), tables, end);
+        ask(&kernel, trunhoac_fill_next(record), tables, guarded, log + i * TRUNHOAC_REPLY_BYTES);
+        ask(&kernel, trunhoac_fill_end(record), tables, guarded, end);
     }
 }

@@ -1,21 +1,29 @@
-//! Charts: the check, the step by the nested rules, and the flat table.
+//! Charts of both editions: the check, and the step by the nested rules.
+
+mod flat;
+#[cfg(test)]
+mod tests;
+
+pub use flat::{flatten, read_start, read_step, rows_place, sound, FlatRow, Found, Reading};
+
+use std::collections::BTreeSet;
 
 pub const RECORD_BYTES: usize = 8;
 pub const MOST_CHART_BYTES: usize = 5_576;
-pub const MOST_STATES: usize = 24;
 pub const MOST_LEVELS: usize = 6;
 pub const MOST_ACTIONS: usize = 18;
 pub const FIRST_SIGNAL: u8 = 4;
 pub const LAST_SIGNAL: u8 = 31;
+/// The flag of a row that has none.
+pub const NO_FLAG: u8 = 0;
 
-/// A row of the flat table: next, outcome, count, 18 actions, 3 zeros.
+/// A row of the flat table: next, outcome, count, 18 actions, the flag, 2 zeros.
 pub const ROW_BYTES: usize = 24;
-pub const SLOT_BYTES: usize = 16_152;
 
 /// The check's answer for a chart without a fault.
 pub const GOOD: u32 = 0;
-/// The flattener's answer for a good chart and a slot of another length.
-pub const WRONG_SLOT: u32 = 5;
+/// The flattener's answer for a good chart and a table of another length.
+pub const WRONG_TABLE: u32 = 5;
 
 /// Signals 4 to 31.
 const SIGNALS: usize = 28;
@@ -26,6 +34,69 @@ const ROW_RECORD: u8 = 2;
 
 const INTERNAL: u8 = 0;
 const TRANSITION: u8 = 1;
+
+/// The editions of charts; edition one is the case in which no row has a flag.
+#[derive(Clone, Copy, Debug, PartialEq, Eq)]
+pub enum Edition {
+    Plain,
+    Guarded,
+}
+
+impl Edition {
+    pub const ALL: [Edition; 2] = [Edition::Plain, Edition::Guarded];
+
+    pub fn most_states(self) -> usize {
+        match self {
+            Edition::Plain => 24,
+            Edition::Guarded => 8,
+        }
+    }
+
+    /// Flags count from 1; 0 stands for none in both editions.
+    pub fn highest_flag(self) -> u8 {
+        match self {
+            Edition::Plain => NO_FLAG,
+            Edition::Guarded => 8,
+        }
+    }
+
+    /// How many rows of the flat table a state has for a signal: where rows may be passed over, one for each level.
+    pub fn rows_each(self) -> usize {
+        match self {
+            Edition::Plain => 1,
+            Edition::Guarded => MOST_LEVELS,
+        }
+    }
+
+    pub fn table_bytes(self) -> usize {
+        match self {
+            Edition::Plain => 16_152,
+            Edition::Guarded => 32_280,
+        }
+    }
+}
+
+/// The flags of an object that are up; all are down by default.
+#[derive(Clone, Debug, Default, PartialEq, Eq)]
+pub struct Flags {
+    up: BTreeSet<u8>,
+}
+
+impl Flags {
+    /// Whether the flag changed.
+    pub fn set(&mut self, flag: u8, is_up: bool) -> bool {
+        if is_up {
+            self.up.insert(flag)
+        } else {
+            self.up.remove(&flag)
+        }
+    }
+
+    /// Whether a row with this flag, or with none, may be taken.
+    pub fn admit(&self, flag: u8) -> bool {
+        flag == NO_FLAG || self.up.contains(&flag)
+    }
+}
 
 /// What is wrong with a chart, by class.
 #[derive(Clone, Copy, Debug, PartialEq, Eq)]
@@ -67,6 +138,7 @@ struct Row {
     kind: u8,
     target: u8,
     action: u8,
+    flag: u8,
 }
 
 /// One 8-byte record with a known kind and clean filler bytes.
@@ -77,7 +149,7 @@ enum Record {
 }
 
 impl Record {
-    fn read(bytes: &[u8]) -> Option<Record> {
+    fn read(edition: Edition, bytes: &[u8]) -> Option<Record> {
         match *bytes {
             [TOP_RECORD, target, action, 0, 0, 0, 0, 0] => {
                 Some(Record::Top(Top { target, action }))
@@ -91,13 +163,18 @@ impl Record {
                     initial_action,
                 }))
             }
-            [ROW_RECORD, state, signal, kind, target, action, 0, 0] => Some(Record::Row(Row {
-                state,
-                signal,
-                kind,
-                target,
-                action,
-            })),
+            [ROW_RECORD, state, signal, kind, target, action, flag, 0]
+                if flag == NO_FLAG || edition == Edition::Guarded =>
+            {
+                Some(Record::Row(Row {
+                    state,
+                    signal,
+                    kind,
+                    target,
+                    action,
+                    flag,
+                }))
+            }
             _ => None,
         }
     }
@@ -109,6 +186,7 @@ type Path = Vec<u8>;
 /// A chart without a fault.
 #[derive(Clone, Debug)]
 pub struct Chart {
+    edition: Edition,
     top: Top,
     states: Vec<State>,
     rows: Vec<Row>,
@@ -132,53 +210,24 @@ pub struct Step {
     pub actions: Vec<u8>,
 }
 
-/// The answer of the check: 0 for a good chart, else the class of its fault.
-pub fn check(bytes: &[u8]) -> u32 {
-    match parse(bytes) {
+/// The answer of the check: 0 for a good chart of the edition, else the class of its fault.
+pub fn check(edition: Edition, bytes: &[u8]) -> u32 {
+    match parse(edition, bytes) {
         Ok(_) => GOOD,
         Err(fault) => fault.class(),
     }
 }
 
-/// The answer of the flattener; the slot is written only when it is 0.
-pub fn flatten(bytes: &[u8], slot: &mut [u8]) -> u32 {
-    match parse(bytes) {
-        Err(fault) => fault.class(),
-        Ok(_) if slot.len() != SLOT_BYTES => WRONG_SLOT,
-        Ok(chart) => {
-            slot.copy_from_slice(&chart.table());
-            GOOD
-        }
-    }
-}
-
-/// Whether a row of a flat table may be acted on.
-pub fn sound(row: &[u8]) -> bool {
-    let [next, outcome, count, rest @ ..] = row else {
-        return false;
-    };
-    row.len() == ROW_BYTES
-        && (1..=MOST_STATES).contains(&usize::from(*next))
-        && *outcome <= Outcome::Transition as u8
-        && usize::from(*count) <= MOST_ACTIONS
-        && rest.iter().skip(usize::from(*count)).all(|&byte| byte == 0)
-}
-
-/// Where the row for a state and a signal begins in a slot.
-pub fn row_offset(state: u8, signal: u8) -> usize {
-    let before = SIGNALS * (usize::from(state) - 1) + usize::from(signal - FIRST_SIGNAL);
-    ROW_BYTES + ROW_BYTES * before
-}
-
 /// Reads and checks a chart, one class after the other over the whole chart,
 /// so that the lowest class is found wherever the faults stand.
-pub fn parse(bytes: &[u8]) -> Result<Chart, Fault> {
+pub fn parse(edition: Edition, bytes: &[u8]) -> Result<Chart, Fault> {
     if !has_chart_length(bytes) {
         return Err(Fault::Length);
     }
-    let (top, states, rows) = read_records(bytes).ok_or(Fault::Records)?;
+    let (top, states, rows) = read_records(edition, bytes).ok_or(Fault::Records)?;
     let paths = paths_of(&states).ok_or(Fault::States)?;
     let chart = Chart {
+        edition,
         top,
         states,
         rows,
@@ -199,8 +248,9 @@ fn has_chart_length(bytes: &[u8]) -> bool {
 }
 
 /// The records by kind, or nothing for a fault of class 2.
-fn read_records(bytes: &[u8]) -> Option<(Top, Vec<State>, Vec<Row>)> {
-    let mut records = bytes.chunks(RECORD_BYTES).map(Record::read);
+fn read_records(edition: Edition, bytes: &[u8]) -> Option<(Top, Vec<State>, Vec<Row>)> {
+    let records = bytes.chunks(RECORD_BYTES);
+    let mut records = records.map(|record| Record::read(edition, record));
     let Some(Record::Top(top)) = records.next()? else {
         return None;
     };
@@ -214,7 +264,7 @@ fn read_records(bytes: &[u8]) -> Option<(Top, Vec<State>, Vec<Row>)> {
             _ => return None,
         }
     }
-    let count_is_right = (1..=MOST_STATES).contains(&states.len());
+    let count_is_right = (1..=edition.most_states()).contains(&states.len());
     count_is_right.then_some((top, states, rows))
 }
 
@@ -253,16 +303,17 @@ impl Chart {
         walk.finish()
     }
 
-    /// The step from a state of rest, which must be a state of the chart. The row's
-    /// action comes first, whatever its kind.
-    pub fn step(&self, rest: u8, signal: u8) -> Step {
-        let Some(row) = self.row_for(rest, signal) else {
-            return Step {
-                next: rest,
-                outcome: Outcome::Ignored,
-                actions: Vec::new(),
-            };
-        };
+    /// The step from a state of rest, which must be a state of the chart: by the first row outward that the flags admit.
+    pub fn step(&self, rest: u8, signal: u8, flags: &Flags) -> Step {
+        let mut rows = self.rows_outward(rest, signal);
+        match rows.find(|row| flags.admit(row.flag)) {
+            Some(row) => self.step_by(row, rest),
+            None => Step::ignored(rest),
+        }
+    }
+
+    /// What a row of the state of rest, or of one around it, does. Its action comes first, whatever its kind.
+    fn step_by(&self, row: &Row, rest: u8) -> Step {
         let mut walk = Walk::at_rest(self, rest);
         walk.list(row.action);
         if row.kind == INTERNAL {
@@ -276,20 +327,6 @@ impl Chart {
         walk.enter_down_to(row.target);
         walk.take_initial_transitions();
         walk.finish()
-    }
-
-    /// The flat table, as long as a slot.
-    pub fn table(&self) -> Vec<u8> {
-        let mut table = vec![0; SLOT_BYTES];
-        self.start().write_flat(&mut table[..ROW_BYTES]);
-        for state in self.numbers() {
-            for signal in FIRST_SIGNAL..=LAST_SIGNAL {
-                let begin = row_offset(state, signal);
-                let row = &mut table[begin..begin + ROW_BYTES];
-                self.step(state, signal).write_flat(row);
-            }
-        }
-        table
     }
 
     fn state(&self, number: u8) -> &State {
@@ -346,16 +383,16 @@ impl Chart {
         self.is_state(row.state)
             && (FIRST_SIGNAL..=LAST_SIGNAL).contains(&row.signal)
             && target_is_right
+            && row.flag <= self.edition.highest_flag()
     }
 
-    /// The first row for the signal on the way outward; its state is the source.
-    fn row_for(&self, rest: u8, signal: u8) -> Option<&Row> {
-        let row_at = |state: &u8| {
-            self.rows
-                .iter()
-                .find(|row| row.state == *state && row.signal == signal)
+    /// The rows for the signal on the way outward, that of the state of rest first; the state of the one taken is the source.
+    fn rows_outward(&self, rest: u8, signal: u8) -> impl Iterator<Item = &Row> {
+        let row_at = move |state: &u8| {
+            let mut rows = self.rows.iter();
+            rows.find(|row| row.state == *state && row.signal == signal)
         };
-        self.path(rest).iter().rev().find_map(row_at)
+        self.path(rest).iter().rev().filter_map(row_at)
     }
 
     /// How many levels, from the top, a transition neither leaves nor enters.
@@ -369,12 +406,12 @@ impl Chart {
 }
 
 impl Step {
-    /// Fills a row of zeros.
-    fn write_flat(&self, row: &mut [u8]) {
-        row[0] = self.next;
-        row[1] = self.outcome as u8;
-        row[2] = self.actions.len() as u8;
-        row[3..3 + self.actions.len()].copy_from_slice(&self.actions);
+    fn ignored(rest: u8) -> Self {
+        Step {
+            next: rest,
+            outcome: Outcome::Ignored,
+            actions: Vec::new(),
+        }
     }
 }
 
@@ -445,169 +482,5 @@ impl<'a> Walk<'a> {
             outcome: Outcome::Transition,
             actions: self.actions,
         }
-    }
-}
-
-#[cfg(test)]
-mod tests {
-    use super::*;
-    use crate::harness::builder::ChartBuilder;
-    use crate::harness::good::{self, shift, smallest};
-    use crate::harness::random::RandomCharts;
-
-    fn shift_chart() -> Chart {
-        parse(&shift()).expect("the shift chart is good")
-    }
-
-    /// 1 > 2 > 3 with these initial targets of 1 and 2.
-    fn three_levels(outer_target: u8, inner_target: u8) -> Vec<u8> {
-        ChartBuilder::top(1, 10)
-            .state(0, 11, 12)
-            .initial(outer_target, 0)
-            .state(1, 21, 22)
-            .initial(inner_target, 0)
-            .state(2, 31, 32)
-            .bytes()
-    }
-
-    fn moved(next: u8, actions: &[u8]) -> Step {
-        Step {
-            next,
-            outcome: Outcome::Transition,
-            actions: actions.to_vec(),
-        }
-    }
-
-    #[test]
-    fn shift_starts_in_2() {
-        assert_eq!(shift_chart().start(), moved(2, &[10, 11, 13, 21]));
-    }
-
-    #[test]
-    fn shift_transitions() {
-        let chart = shift_chart();
-        assert_eq!(chart.step(2, 6), moved(4, &[26, 22, 31, 41]));
-        assert_eq!(chart.step(4, 8), moved(5, &[38, 42, 51]));
-        assert_eq!(chart.step(4, 10), moved(4, &[40, 42, 33, 41]));
-        assert_eq!(chart.step(4, 7), moved(2, &[37, 42, 32, 21]));
-        assert_eq!(chart.step(5, 11), moved(2, &[59, 52, 32, 13, 21]));
-        assert_eq!(chart.step(4, 5), moved(2, &[15, 42, 32, 12, 11, 13, 21]));
-    }
-
-    #[test]
-    fn shift_internal() {
-        let step = shift_chart().step(4, 9);
-        assert_eq!(step.next, 4);
-        assert_eq!(step.outcome, Outcome::Internal);
-        assert_eq!(step.actions, [49]);
-    }
-
-    #[test]
-    fn shift_ignored() {
-        let step = shift_chart().step(2, 9);
-        assert_eq!(step.next, 2);
-        assert_eq!(step.outcome, Outcome::Ignored);
-        assert_eq!(step.actions, []);
-    }
-
-    #[test]
-    fn shift_row_of_4_by_8() {
-        let mut slot = vec![0xee; SLOT_BYTES];
-        assert_eq!(flatten(&shift(), &mut slot), GOOD);
-        assert_eq!(row_offset(4, 8), 2_136);
-        assert_eq!(slot[2_136..2_142], [5, 2, 3, 38, 42, 51]);
-        assert_eq!(slot[2_142..2_160], [0; 18]);
-    }
-
-    #[test]
-    fn rows_of_ignored_signals_and_of_absent_states() {
-        let mut slot = vec![0xee; SLOT_BYTES];
-        assert_eq!(flatten(&smallest(), &mut slot), GOOD);
-        for signal in FIRST_SIGNAL..=LAST_SIGNAL {
-            let begin = row_offset(1, signal);
-            assert_eq!(slot[begin], 1);
-            assert_eq!(slot[begin + 1..begin + ROW_BYTES], [0; 23]);
-        }
-        let absent = row_offset(2, FIRST_SIGNAL);
-        assert!(slot[absent..].iter().all(|&byte| byte == 0));
-    }
-
-    #[test]
-    fn the_last_row_ends_the_slot() {
-        assert_eq!(row_offset(24, LAST_SIGNAL) + ROW_BYTES, SLOT_BYTES);
-    }
-
-    #[test]
-    fn every_parent_needs_an_initial_target() {
-        assert_eq!(check(&three_levels(2, 3)), GOOD);
-        assert_eq!(check(&three_levels(3, 3)), GOOD);
-        for (outer, inner) in [(0, 3), (2, 0), (3, 0), (0, 0)] {
-            let chart = three_levels(outer, inner);
-            assert_eq!(check(&chart), Fault::States.class(), "{outer} {inner}");
-        }
-    }
-
-    #[test]
-    fn no_parent_is_a_state_of_rest() {
-        let hard = good::all().into_iter().map(|good| good.bytes);
-        let charts = hard.chain(RandomCharts::new(2).take(100));
-        for chart in charts.filter_map(|bytes| parse(&bytes).ok()) {
-            assert!(!chart.is_parent(chart.start().next));
-            for rest in chart.numbers().filter(|&state| !chart.is_parent(state)) {
-                let mut signals = FIRST_SIGNAL..=LAST_SIGNAL;
-                assert!(signals.all(|signal| !chart.is_parent(chart.step(rest, signal).next)));
-            }
-        }
-    }
-
-    #[test]
-    fn a_slot_of_another_length_is_left_alone() {
-        for length in [0, 1, SLOT_BYTES - 1, SLOT_BYTES + 1] {
-            let mut slot = vec![0xee; length];
-            assert_eq!(flatten(&shift(), &mut slot), WRONG_SLOT);
-            assert!(slot.iter().all(|&byte| byte == 0xee));
-        }
-    }
-
-    #[test]
-    fn a_bad_chart_is_told_before_a_bad_slot() {
-        for length in [7, SLOT_BYTES] {
-            let mut slot = vec![0xee; length];
-            assert_eq!(flatten(&[], &mut slot), Fault::Length.class());
-            assert!(slot.iter().all(|&byte| byte == 0xee));
-        }
-    }
-
-    #[test]
-    fn soundness_of_a_row() {
-        let row = |head: &[u8]| {
-            let mut row = [0; ROW_BYTES];
-            row[..head.len()].copy_from_slice(head);
-            row
-        };
-        assert!(sound(&row(&[1, 0, 0])));
-        assert!(sound(&row(&[24, 2, 2, 9, 9])));
-        // An action within the count may be 0: it is not an unused byte.
-        assert!(sound(&row(&[24, 2, 2, 0, 9])));
-        let full: Vec<u8> = [&[5, 2, 18][..], &[255; 18][..]].concat();
-        assert!(sound(&row(&full)));
-
-        assert!(!sound(&row(&[0, 0, 0])));
-        assert!(!sound(&row(&[25, 0, 0])));
-        assert!(!sound(&row(&[1, 3, 0])));
-        assert!(!sound(&row(&[1, 2, 19])));
-        assert!(!sound(&row(&[1, 2, 255])));
-        assert!(!sound(&row(&[1, 2, 1, 9, 9])));
-        let mut last_byte = row(&full);
-        last_byte[23] = 1;
-        assert!(!sound(&last_byte));
-    }
-
-    #[test]
-    fn a_row_of_another_length_is_not_sound() {
-        assert!(!sound(&[]));
-        assert!(!sound(&[1, 0]));
-        assert!(!sound(&[1, 0, 0]));
-        assert!(!sound(&[&[1][..], &[0; 24][..]].concat()));
     }
 }

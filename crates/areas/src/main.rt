@@ -2,11 +2,15 @@
 // Its input and what it writes are those of `calls`.
 
 ghost use Rattle.state.specs.View.{Good};
+use calls::GUARDED_ROOM;
 use calls::Head;
 use calls::LOG_ROOM;
 use calls::PAYLOADS_ROOM;
 use calls::TABLES_ROOM;
+use calls::TO_GUARDED;
+use calls::TO_TABLES;
 use calls::clear;
+use calls::poke;
 use kernel::Answered;
 use kernel::Kernel;
 use numbers::REPLY_BYTES;
@@ -23,6 +27,7 @@ fn begin(
     is_fresh: bool,
     payloads: &mut [u8],
     tables: &mut [u8],
+    guarded: &mut [u8],
     log: &mut [u8],
 ) -> Kernel
     requires { ⌜ Good k ⌝ }
@@ -33,6 +38,7 @@ fn begin(
     }
     clear(payloads);
     clear(tables);
+    clear(guarded);
     clear(log);
     kernel::fresh()
 }
@@ -45,6 +51,7 @@ fn call(
     chart: &[u8],
     payloads: &mut [u8],
     tables: &mut [u8],
+    guarded: &mut [u8],
     log: &mut [u8],
 ) -> Answered
     requires { ⌜ Good k ⌝ }
@@ -52,6 +59,7 @@ fn call(
 {
     let p = io::count(head.payloads as isize, payloads);
     let t = io::count(head.tables as isize, tables);
+    let g = io::count(head.guarded as isize, guarded);
     let l = io::count(head.log as isize, log);
     kernel::command(
         k,
@@ -59,6 +67,7 @@ fn call(
         chart,
         &mut payloads[..p],
         &mut tables[..t],
+        &mut guarded[..g],
         &mut log[..l],
     )
 }
@@ -71,13 +80,14 @@ fn tell(
     reply: [u8; REPLY_BYTES],
     payloads: &[u8],
     tables: &[u8],
+    guarded: &[u8],
     log: &[u8],
 )
     requires { ⌜ Good k ⌝ }
 {
     let p = io::count(head.payloads as isize, payloads);
     let part = kernel::read_part(k, record, &payloads[..p]);
-    calls::write_line(reply, payloads, tables, log, part);
+    calls::write_line(reply, payloads, tables, guarded, log, part);
 }
 
 // Makes a call, after its poke, and tells of it.
@@ -88,16 +98,20 @@ fn call_and_tell(
     chart: &[u8],
     payloads: &mut [u8],
     tables: &mut [u8],
+    guarded: &mut [u8],
     log: &mut [u8],
 ) -> Kernel
     requires { ⌜ Good k ⌝ }
     ensures { λ r. ⌜ Good r ⌝ }
 {
-    calls::poke(head, tables);
-    let answered = call(k, head, record, chart, payloads, tables, log);
+    poke(head, TO_TABLES, tables);
+    poke(head, TO_GUARDED, guarded);
+    let answered = call(k, head, record, chart, payloads, tables, guarded, log);
     let next = answered.kernel;
     let reply = answered.reply;
-    tell(next, head, record, reply, payloads, tables, log);
+    tell(
+        next, head, record, reply, payloads, tables, guarded, log,
+    );
     next
 }
 
@@ -109,6 +123,7 @@ fn make(
     chart: &[u8],
     payloads: &mut [u8],
     tables: &mut [u8],
+    guarded: &mut [u8],
     log: &mut [u8],
 ) -> Kernel
     requires { ⌜ Good k ⌝ }
@@ -116,7 +131,7 @@ fn make(
 {
     let n = io::count(head.record as isize, record);
     let m = io::count(head.chart as isize, chart);
-    let ready = begin(k, head.is_fresh, payloads, tables, log);
+    let ready = begin(k, head.is_fresh, payloads, tables, guarded, log);
     call_and_tell(
         ready,
         head,
@@ -124,6 +139,7 @@ fn make(
         &chart[..m],
         payloads,
         tables,
+        guarded,
         log,
     )
 }
@@ -135,7 +151,13 @@ struct Run {
 }
 
 // Reads a call and makes it. The last turn is where the input ends, or a head asks for more than there is.
-fn turn(k: Kernel, payloads: &mut [u8], tables: &mut [u8], log: &mut [u8]) -> Run
+fn turn(
+    k: Kernel,
+    payloads: &mut [u8],
+    tables: &mut [u8],
+    guarded: &mut [u8],
+    log: &mut [u8],
+) -> Run
     requires { ⌜ Good k ⌝ }
     ensures { λ r. ⌜ Good (r .kernel) ⌝ }
 {
@@ -149,7 +171,9 @@ fn turn(k: Kernel, payloads: &mut [u8], tables: &mut [u8], log: &mut [u8]) -> Ru
         };
     }
     Run {
-        kernel: make(k, head, &record, &chart, payloads, tables, log),
+        kernel: make(
+            k, head, &record, &chart, payloads, tables, guarded, log,
+        ),
         goes_on: true,
     }
 }
@@ -158,6 +182,7 @@ fn turn(k: Kernel, payloads: &mut [u8], tables: &mut [u8], log: &mut [u8]) -> Ru
 fn main() {
     let mut payloads = [0u8; PAYLOADS_ROOM];
     let mut tables = [0u8; TABLES_ROOM];
+    let mut guarded = [0u8; GUARDED_ROOM];
     let mut log = [0u8; LOG_ROOM];
     let mut run = Run {
         kernel: kernel::fresh(),
@@ -165,7 +190,13 @@ fn main() {
     };
     let mut turns = u64::MAX;
     while turns > 0 && run.goes_on {
-        run = turn(run.kernel, &mut payloads, &mut tables, &mut log);
+        run = turn(
+            run.kernel,
+            &mut payloads,
+            &mut tables,
+            &mut guarded,
+            &mut log,
+        );
         turns -= 1;
     }
 }

@@ -4,7 +4,7 @@ use mathlib.Core.Bool.{Bool, true, false, cond, not, _&&_, _||_}
 use mathlib.Core.List.{List, [], _∷_, _++_}
 use mathlib.Core.Logic.{⊎-elim}
 use mathlib.Core.Path.{_≡_, refl, sym, ap, _∙_}
-use Prim.Native.Nat.{ℕ, zero, suc, _+_, _*_, _%_, _≤_, _<_}
+use Prim.Native.Nat.{ℕ, zero, suc, _+_, _-_, _*_, _%_, _≤_, _<_}
 use native.Mathlib.Nat.{le-refl}
 use native.Mathlib.Omega.{arith}
 use borrow.Author.Tests.{eq-eqb, ne-eqb, eqb-true, eqb-false, le-leb, leb-true, leb-false, ltb-true, not-true}
@@ -14,20 +14,21 @@ use Rattle.ground.specs.Bools.{no-yes, and-left, and-right, or-right, cond-pick
 use Rattle.ground.specs.Every.{every-at}
 use Rattle.ground.specs.Range.{every}
 use Rattle.ground.specs.Search.{first-is}
-use Rattle.chart.specs.Chart.{classOf, lengthOk, formsOk, treeOk, rowsOk, states, records, formOk, parentOk, stateOk, rowOk, among, isSignal, path, outward, parent, has, byte, rowFor, recordAt, topTarget, topAction}
-use Rattle.chart.specs.Held.{formAt, kindAt, stateAt, rowGood, hasRow, up, within, settled, settling}
-use Rattle.chart.specs.Step.{Answer, upTo, leave, enter, listed, firstOf, source, limit, moved, step, start}
+use Rattle.chart.specs.Chart.{classOf, lengthOk, formsOk, treeOk, rowsOk, states, records, formOk, parentOk, stateOk, rowOk, among, isSignal, path, outward, parent, has, byte, rowFor, hasRow, flagOf, recordAt, key, topTarget, topAction}
+use Rattle.chart.specs.Flags.{Flags}
+use Rattle.chart.specs.Held.{formAt, kindAt, keyBefore, nthOut, stateAt, rowGood, openRow, up, within, targetOk, settled, settling}
+use Rattle.chart.specs.Step.{Answer, ignored, upTo, leave, enter, listed, firstOf, source, limit, settle, moved, rowDoes, answerBy, step, start}
 use Rattle.chart.proofs.Laws.{path-top, path-cons, level-same}
 use Rattle.chart.proofs.Steps.{settle-is}
 use Rattle.chart.proofs.Walk.{settled-stop, settled-suc, settling-stop, settling-suc}
-use Rattle.chart.specs.Numbers.{longest, mostStates, levels, firstSignal, lastSignal, mostActions}
+use Rattle.chart.specs.Numbers.{Edition, Plain, Guarded, longest, levels, firstSignal, lastSignal, mostStates, mostFlag, mostActions}
 
 -- ## Accepted
-pub record Accepted (d : List ℕ) : Type 0 where
+pub record Accepted (e : Edition) (d : List ℕ) : Type 0 where
   pub fits : lengthOk d ≡ true
-  pub forms : formsOk (states d) d ≡ true
+  pub forms : formsOk e (states d) d ≡ true
   pub tree : treeOk (states d) d ≡ true
-  pub rows : rowsOk (states d) d ≡ true
+  pub rows : rowsOk e (states d) d ≡ true
 
 class-go : (a b c e : Bool) → _≡_ {A = ℕ} (cond a (cond b (cond c (cond e 0 4) 3) 2) 1) 0 → (a ≡ true) × (b ≡ true) × (c ≡ true) × (e ≡ true)
 class-go true true true true q = (refl, refl, refl, refl)
@@ -36,10 +37,10 @@ class-go true true false e q = absurd (omega arith)
 class-go true false c e q = absurd (omega arith)
 class-go false b c e q = absurd (omega arith)
 
-pub accepted : (d : List ℕ) → classOf d ≡ 0 → Accepted d
+pub accepted : (e : Edition) (d : List ℕ) → classOf e d ≡ 0 → Accepted e d
 unfolding classOf
-accepted d e =
-    let h = class-go (lengthOk d) (formsOk (states d) d) (treeOk (states d) d) (rowsOk (states d) d) e in
+accepted e d z =
+    let h = class-go (lengthOk d) (formsOk e (states d) d) (treeOk (states d) d) (rowsOk e (states d) d) z in
     record { fits = h .0; forms = h .1; tree = h .2; rows = h .3 }
 
 pub among-of : (n s : ℕ) → among n s ≡ true → (1 ≤ s) × (s ≤ n)
@@ -54,20 +55,28 @@ pub size-of : (d : List ℕ) → lengthOk d ≡ true → length d ≤ longest
 unfolding lengthOk
 size-of d e = leb-true (length d) longest (and-right (eqb (length d % 8) 0) _ (and-right (not (eqb (length d) 0)) _ e))
 
-pub few : (n : ℕ) (d : List ℕ) → formsOk n d ≡ true → (1 ≤ n) × (n ≤ mostStates)
+pub few : (e : Edition) (n : ℕ) (d : List ℕ) → formsOk e n d ≡ true → (1 ≤ n) × (n ≤ mostStates e)
 unfolding formsOk
-few n d e = among-of mostStates n (and-right (every (formAt n d) 0 (records d)) _ e)
+few e n d h = among-of (mostStates e) n (and-right (every (formAt e n d) 0 (records d)) _ h)
 
-pub few-states : (d : List ℕ) → classOf d ≡ 0 → states d ≤ mostStates
-few-states d z = few (states d) d (accepted d z .forms) .1
+pub few-states : (e : Edition) (d : List ℕ) → classOf e d ≡ 0 → states d ≤ mostStates e
+few-states e d z = few e (states d) d (accepted e d z .forms) .1
+
+-- those of a plain chart are the most
+pub at-most : (e : Edition) (n : ℕ) (d : List ℕ) → formsOk e n d ≡ true → n ≤ mostStates Plain
+at-most e n d h = omega (arith, few e n d h .1, most e)
+  where
+    most : (e : Edition) → mostStates e ≤ mostStates Plain
+    most Plain = omega arith
+    most Guarded = omega arith
 
 -- a class is one of 0 to 4
-pub class-most : (d : List ℕ) → classOf d ≤ 4
+pub class-most : (e : Edition) (d : List ℕ) → classOf e d ≤ 4
 unfolding classOf
-class-most d =
+class-most e d =
     cond-all low (lengthOk d)
-    (cond-all low (formsOk (states d) d)
-    (cond-all low (treeOk (states d) d) (cond-all low (rowsOk (states d) d) (omega arith) (omega arith)) (omega arith)) (omega arith)) (omega arith)
+    (cond-all low (formsOk e (states d) d)
+    (cond-all low (treeOk (states d) d) (cond-all low (rowsOk e (states d) d) (omega arith) (omega arith)) (omega arith)) (omega arith)) (omega arith)
   where
     low : ℕ → Type 0
     low n = n ≤ 4
@@ -106,7 +115,7 @@ module _ (d : List ℕ) where
   outward-cons : (s : ℕ) → (s ≡ 0 → ⊥) → up levels d s ≡ 0 → outward d s ≡ s ∷ outward d (parent d s)
   outward-cons s n e = path-cons d 5 s n ∙ ap (λ p. s ∷ p) (sym (path-stays 5 (parent d s) (unfold up in e)))
 
-  path-length : (k s : ℕ) → length (path k d s) ≤ k
+  pub path-length : (k s : ℕ) → length (path k d s) ≤ k
   path-length zero s = unfold path in le-refl 0
   path-length (suc k) s =
       ⊎-elim
@@ -183,10 +192,15 @@ module _ (d : List ℕ) where
       (λ q. rw (up-to-more x s p q) (let h = up-to-length x p in omega arith))
       (eq-or s x)
 
--- ## The states of an accepted chart
+-- ## The states of an accepted chart, and what an answer is that rests in one
 pub record State (d : List ℕ) (s : ℕ) : Type 0 where
   pub low : 1 ≤ s
   pub high : s ≤ states d
+
+pub record Good (d : List ℕ) (r : Answer) : Type 0 where
+  pub few : length (r .acts) ≤ mostActions
+  pub rests : State d (r .next)
+  pub outcome : r .outcome ≤ 2
 
 pub state-of : (d : List ℕ) (s : ℕ) → among (states d) s ≡ true → State d s
 state-of d s e = let h = among-of (states d) s e in record { low = h .0; high = h .1 }
@@ -195,7 +209,7 @@ pub is-state : (d : List ℕ) (s : ℕ) → State d s → among (states d) s ≡
 unfolding among
 is-state d s h = rw (le-leb 1 s (h .low), le-leb s (states d) (h .high))
 
-module _ (d : List ℕ) (acc : Accepted d) where
+module _ {e : Edition} (d : List ℕ) (acc : Accepted e d) where
   state-ok : (s : ℕ) → State d s → stateAt (states d) d s ≡ true
   unfolding treeOk
   state-ok s h =
@@ -286,27 +300,36 @@ module _ (d : List ℕ) (acc : Accepted d) where
   kind-go false false e = refl
 
   -- the row of a state and a signal, where there is one, is a good one
-  row-good : (s g : ℕ) → rowFor d s g < records d → rowGood (states d) d (rowFor d s g) ≡ true
+  row-good : (s g : ℕ) → rowFor d s g < records d → rowGood e (states d) d (rowFor d s g) ≡ true
   unfolding rowFor formsOk rowsOk formOk byte
   row-good s g r =
       let i = rowFor d s g in
       let p : ℕ → Bool = λ j. eqb (byte d j 0) 2 && (eqb (byte d j 1) s && eqb (byte d j 2) g) in
       let f = first-is p 0 (records d) .passes (omega arith) in
       let k = eqb-true (getD (recordAt d i) 0 0) 2 (and-left (eqb (getD (recordAt d i) 0 0) 2) _ f) in
-      let m = every-at (formAt (states d) d) 0 (records d) i (and-left (every (formAt (states d) d) 0 (records d)) _ (acc .forms)) (omega arith) r in
+      let m = every-at (formAt e (states d) d) 0 (records d) i (and-left (every (formAt e (states d) d) 0 (records d)) _ (acc .forms)) (omega arith) r in
       let q = eqb-true (getD (recordAt d i) 0 0) (kindAt (states d) i) (and-left (eqb (getD (recordAt d i) 0 0) (kindAt (states d) i)) _ m) in
       let l = leb-false i (states d) (kind-go (eqb i 0) (leb i (states d)) (sym q ∙ k)) in
-      every-at (rowGood (states d) d) (states d + 1) (records d) i (acc .rows) (omega arith) r
+      every-at (rowGood e (states d) d) (states d + 1) (records d) i (acc .rows) (omega arith) r
 
-  row-target : (s g : ℕ) → rowFor d s g < records d → (byte d (rowFor d s g) 3 ≡ 0 → ⊥) → State d (byte d (rowFor d s g) 4)
-  unfolding rowOk byte
-  row-target s g n z =
-      let i = rowFor d s g in
-      let r = recordAt d i in
-      let a = and-right (isSignal (getD r 2 0)) _ (and-right (among (states d) (getD r 1 0)) _ (row-good s g n)) in
-      let t = and-left (cond (eqb (getD r 3 0) 0) (eqb (getD r 4 0) 0) (eqb (getD r 3 0) 1 && among (states d) (getD r 4 0))) _ a in
-      let q = cond-else (eqb (getD r 3 0) 0) _ _ (ne-eqb (getD r 3 0) 0 z) t in
-      state-of d (getD r 4 0) (and-right (eqb (getD r 3 0) 1) _ q)
+  -- its target is a state, and its flag one of the edition's
+  module _ (s g : ℕ) (n : hasRow d g s ≡ true) where
+    abbrev r : List ℕ
+    r = recordAt d (rowFor d s g)
+
+    row-rest : (targetOk (states d) (getD r 3 0) (getD r 4 0) && (leb (getD r 6 0) (mostFlag e) && ltb (keyBefore (states d) d (rowFor d s g)) (key r))) ≡ true
+    unfolding rowOk
+    row-rest = and-right (isSignal (getD r 2 0)) _ (and-right (among (states d) (getD r 1 0)) _ (row-good s g (ltb-true _ _ n)))
+
+    row-target : (byte d (rowFor d s g) 3 ≡ 0 → ⊥) → State d (byte d (rowFor d s g) 4)
+    unfolding byte
+    row-target z =
+        let t = and-left (targetOk (states d) (getD r 3 0) (getD r 4 0)) _ row-rest in
+        state-of d (getD r 4 0) (and-right (eqb (getD r 3 0) 1) _ (cond-else (eqb (getD r 3 0) 0) _ _ (ne-eqb (getD r 3 0) 0 z) t))
+
+    pub row-flag : flagOf d g s ≤ mostFlag e
+    unfolding byte
+    row-flag = leb-true (getD r 6 0) (mostFlag e) (and-left (leb (getD r 6 0) (mostFlag e)) _ (and-right (targetOk (states d) (getD r 3 0) (getD r 4 0)) _ row-rest))
 
   -- ## Steps
   -- the first that passes is on the way outward
@@ -319,9 +342,30 @@ module _ (d : List ℕ) (acc : Accepted d) where
       (λ e z. let h = first-has p l z in (h .0, or-right (eqb s (firstOf p l)) _ (h .1)))
       n
 
-  moved-bound : (x s t a : ℕ) → State d x → has s (outward d x) ≡ true → State d t → length (moved d x s t a .acts) ≤ mostActions
+  pub nth-has : (g : ℕ) (l : List ℕ) (i : ℕ) → (nthOut d g i l ≡ 0 → ⊥) → (hasRow d g (nthOut d g i l) ≡ true) × (has (nthOut d g i l) l ≡ true)
+  unfolding nthOut has
+  nth-has g [] i n = absurd (n refl)
+  nth-has g (s ∷ l) i n =
+      cond-pick Found (hasRow d g s) _ _
+      (λ q.
+      cond-pick Found (eqb i 0) s _ (λ z m. (q, rw (eq-eqb s s refl)))
+      (λ z. cond-pick Found (eqb (flagOf d g s) 0) 0 _ (λ f m. absurd (m refl)) (λ f m. later _ (nth-has g l (i - 1) m))))
+      (λ q m. later _ (nth-has g l i m))
+      n
+    where
+      Found : ℕ → Type 0
+      Found r = (r ≡ 0 → ⊥) → (hasRow d g r ≡ true) × ((eqb s r || has r l) ≡ true)
+
+      later : (r : ℕ) → (hasRow d g r ≡ true) × (has r l ≡ true) → (hasRow d g r ≡ true) × ((eqb s r || has r l) ≡ true)
+      later r w = (w .0, or-right (eqb s r) _ (w .1))
+
+  -- initial transitions from a state t, behind what was listed before
+  settle-good : (t : ℕ) (l : List ℕ) → State d t → length (l ++ settling levels d t) ≤ mostActions → Good d (settle levels d t l)
+  settle-good t l h b = rw (settle-is d levels t l) (record { few = b; rests = settled-state levels t h; outcome = omega arith })
+
+  moved-good : (x s t a : ℕ) → State d x → has s (outward d x) ≡ true → State d t → Good d (moved d x s t a)
   unfolding moved
-  moved-bound x s t a h i g =
+  moved-good x s t a h i g =
       let l = limit d s t in
       let p = listed a in
       let q = leave d (upTo s (outward d x)) in
@@ -341,11 +385,11 @@ module _ (d : List ℕ) (acc : Accepted d) where
       let b7 = settling-bound levels t g in
       let b8 : length (outward d t) ≡ suc (length (outward d (parent d t))) = ap length (state-cons t g) in
       let b9 = depth-of d s x (state-up x h) i in
-      rw (settle-is d levels t (p ++ (q ++ (r ++ u)))) (omega (arith, path-length d levels x))
+      settle-good t (p ++ (q ++ (r ++ u))) g (omega (arith, path-length d levels x))
 
-  pub start-bound : length (start d .acts) ≤ mostActions
+  pub start-good : Good d (start d)
   unfolding start
-  start-bound =
+  start-good =
       let t = topTarget d in
       let l = listed (topAction d) ++ enter d (outward d t) in
       let e1 = length-append l (settling levels d t) in
@@ -353,51 +397,46 @@ module _ (d : List ℕ) (acc : Accepted d) where
       let b1 = listed-length d (topAction d) in
       let b2 = enter-length d (outward d t) in
       let b3 = settling-bound levels t top-state in
-      rw (settle-is d levels t l) (omega (arith, path-length d levels t))
+      settle-good t l top-state (omega (arith, path-length d levels t))
 
-  pub start-state : State d (start d .next)
-  unfolding start
-  start-state = rw (settle-is d levels (topTarget d) (listed (topAction d) ++ enter d (outward d (topTarget d)))) (settled-state levels (topTarget d) top-state)
+  pub ignored-good : (x : ℕ) → State d x → Good d (ignored x)
+  ignored-good x h = record { few = omega arith; rests = h; outcome = omega arith }
 
-  moved-state : (x s t a : ℕ) → State d t → State d (moved d x s t a .next)
-  unfolding moved
-  moved-state x s t a h = rw (settle-is d levels t _) (settled-state levels t h)
+  -- what holds of each kind of answer holds of what the row of a state does, and of a step
+  row-cases : (P : Answer → Type 0) (x g s : ℕ) → hasRow d g s ≡ true
+      → P (ignored x)
+      → ((i : ℕ) → P (record { next = x; outcome = 1; acts = listed (byte d i 5) }))
+      → ((t a : ℕ) → State d t → P (moved d x s t a))
+      → P (answerBy d x g s)
+  unfolding answerBy rowDoes
+  row-cases P x g s r f0 f1 f2 =
+      let i = rowFor d s g in
+      cond-pick P (eqb s 0) _ _ (λ q. f0)
+      (λ q. cond-pick P (eqb (byte d i 3) 0) _ _ (λ z. f1 i) (λ z. f2 (byte d i 4) (byte d i 5) (row-target s g r (eqb-false _ 0 z))))
 
-  moved-outcome : (x s t a : ℕ) → moved d x s t a .outcome ≤ 2
-  unfolding moved
-  moved-outcome x s t a = rw (settle-is d levels t _) (omega arith)
-
-  -- what holds of each kind of answer holds of a step
-  pub step-cases : (P : Answer → Type 0) (x g : ℕ)
-      → P (record { next = x; outcome = 0; acts = [] })
+  pub step-cases : (P : Answer → Type 0) (isUp : Flags) (x g : ℕ)
+      → P (ignored x)
       → ((i : ℕ) → P (record { next = x; outcome = 1; acts = listed (byte d i 5) }))
       → ((s t a : ℕ) → has s (outward d x) ≡ true → State d t → P (moved d x s t a))
-      → P (step d x g)
+      → P (step d isUp x g)
   unfolding step
-  step-cases P x g f0 f1 f2 =
-      cond-pick P (eqb (source d x g) 0) _ _ (λ e. f0)
-      (λ e.
-      let s = source d x g in
-      let i = rowFor d s g in
-      let w = first-has (hasRow d g) (outward d x) (eqb-false (source d x g) 0 e) in
-      cond-pick P (eqb (byte d i 3) 0) _ _ (λ q. f1 i)
-      (λ q. f2 s (byte d i 4) (byte d i 5) (w .1) (row-target s g (ltb-true i (records d) (w .0)) (eqb-false (byte d i 3) 0 q))))
+  step-cases P isUp x g f0 f1 f2 =
+      let s = source d isUp x g in
+      ⊎-elim
+      (λ z. rw z (unfold answerBy in f0))
+      (λ n.
+      let w = first-has (openRow d isUp g) (outward d x) n in
+      row-cases P x g s (and-left (hasRow d g s) _ (w .0)) f0 f1 (λ t a k. f2 s t a (w .1) k))
+      (eq-or s 0)
 
-  pub step-bound : (x g : ℕ) → State d x → length (step d x g .acts) ≤ mostActions
-  step-bound x g h =
-      step-cases (λ r. length (r .acts) ≤ mostActions) x g (omega arith)
-      (λ i. omega (arith, listed-length d (byte d i 5)))
-      (λ s t a i k. moved-bound x s t a h i k)
+  internal-good : (x : ℕ) → State d x → (i : ℕ) → Good d (record { next = x; outcome = 1; acts = listed (byte d i 5) })
+  internal-good x h i = record { few = omega (arith, listed-length d (byte d i 5)); rests = h; outcome = omega arith }
 
-  pub step-state : (x g : ℕ) → State d x → State d (step d x g .next)
-  step-state x g h = step-cases (λ r. State d (r .next)) x g h (λ i. h) (λ s t a i k. moved-state x s t a k)
+  pub row-answer : (x g s : ℕ) → State d x → has s (outward d x) ≡ true → hasRow d g s ≡ true → Good d (answerBy d x g s)
+  row-answer x g s h i r = row-cases (Good d) x g s r (ignored-good x h) (internal-good x h) (λ t a k. moved-good x s t a h i k)
 
-  pub step-outcome : (x g : ℕ) → step d x g .outcome ≤ 2
-  step-outcome x g = step-cases (λ r. r .outcome ≤ 2) x g (omega arith) (λ i. omega arith) (λ s t a i k. moved-outcome x s t a)
-
-  pub start-outcome : start d .outcome ≤ 2
-  unfolding start
-  start-outcome = rw (settle-is d levels (topTarget d) _) (omega arith)
+  pub step-good : (isUp : Flags) (x g : ℕ) → State d x → Good d (step d isUp x g)
+  step-good isUp x g h = step-cases (Good d) isUp x g (ignored-good x h) (internal-good x h) (λ s t a i k. moved-good x s t a h i k)
 
   -- ## What the bounds of the definitions do not cut off
   settled-ends-from : (k s : ℕ) → State d s → levels ≤ k + length (outward d s) → byte d (settled k d s) 4 ≡ 0

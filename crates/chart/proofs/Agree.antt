@@ -1,110 +1,79 @@
--- Reading what was written: a row says its answer and is sound, the slot's rows are the steps', and so the slot's bytes answer as the nested
--- rules do.
+-- The slot's rows are the chart's, and so its bytes answer as the nested rules do, in both editions.
 use mathlib.Core.Bool.{true}
-use mathlib.Core.List.{List, [], _∷_, _++_, append-assoc}
+use mathlib.Core.List.{List, [], _∷_}
 use mathlib.Core.Path.{_≡_, refl, ap, _∙_}
-use Prim.Native.Nat.{ℕ, suc, _+_, _-_, _*_, _/_, _%_, _≤_}
+use Prim.Native.Nat.{ℕ, _+_, _-_, _*_, _/_, _%_, _≤_, _<_}
 use native.Mathlib.Omega.{arith}
-use borrow.Author.Tests.{eq-eqb, le-leb}
-use lib.Dec.{eqb}
-use lib.ListN.{length, getD, replicate, replicate-append-replicate}
-use lib.Seq.{getD-append-add, take-at}
+use borrow.Author.Tests.{le-leb}
+use lib.ListN.{getD}
+use Rattle.bits.specs.Members.{put}
 use Rattle.ground.specs.Bools.{and-left, and-right}
-use Rattle.ground.specs.Every.{every-all}
-use Rattle.ground.specs.Bytes.{blank}
-use Rattle.ground.specs.Padding.{padded-short, zeros-at}
-use Rattle.chart.specs.Chart.{classOf, among, isSignal, states}
-use Rattle.chart.specs.Flat.{Agrees, rowOf, rowNo, rowAt, slotBytes, place, sound, answerOf, flatStep, run, signals}
-use Rattle.chart.specs.Step.{Answer, step, start}
-use Rattle.chart.proofs.Accepted.{Accepted, State, accepted, few-states, signal-of, step-bound, step-state, step-outcome, start-bound, start-state, start-outcome}
-use Rattle.chart.proofs.Rows.{row-length, slot-at, slot-start}
-use Rattle.chart.specs.Numbers.{mostStates, firstSignal, signalCount, rowSize, mostActions}
+use Rattle.ground.specs.Tab.{tab-ext}
+use Rattle.chart.specs.Chart.{isSignal, states, outward}
+use Rattle.chart.specs.Flags.{Flags}
+use Rattle.chart.specs.Flat.{Agrees, Move, signal, flag, rowsOut, behind, rowNo, rowAt, rowsAt, slotBytes, place, answerOf, flatStep, run, signals}
+use Rattle.chart.specs.Held.{answerAt, isSound, reading}
+use Rattle.chart.specs.Numbers.{Edition, Plain, Guarded, mostStates, firstSignal, lastSignal, signalCount, each, rowCount}
+use Rattle.chart.specs.Step.{step, start}
+use Rattle.chart.proofs.Accepted.{Accepted, State, few, signal-of, start-good, step-good}
+use Rattle.chart.proofs.Found.{reading-gives, reading-sound}
+use Rattle.chart.proofs.InOrder.{Reads, reads}
+use Rattle.chart.proofs.OneRow.{answer-of}
+use Rattle.chart.proofs.Rows.{slot-at, slot-start}
 
--- ## A row
-module _ (r : Answer) (h : length (r .acts) ≤ mostActions) where
-  row-is : rowOf r ≡ r .next ∷ r .outcome ∷ length (r .acts) ∷ (r .acts ++ replicate (mostActions - length (r .acts) + 3) 0)
-  unfolding rowOf
-  row-is = rw (padded-short mostActions (r .acts) h, append-assoc, replicate-append-replicate)
+-- ## The numbers of the rows
+pub record Number (e : Edition) (s g i k : ℕ) : Type 0 where
+  pub below : k < rowCount e
+  pub state : k / (signalCount * each e) + 1 ≡ s
+  pub signal : k / each e % signalCount + firstSignal ≡ g
+  pub row : k % each e ≡ i
 
-  pub answer-of : answerOf (rowOf r) ≡ r
-  unfolding answerOf
-  answer-of = rw row-is (ap (λ l. record { next = r .next; outcome = r .outcome; acts = l }) (take-at (r .acts) _ (length (r .acts)) refl))
-
-  unused : (j : ℕ) → 3 + length (r .acts) ≤ j → getD (rowOf r) j 0 ≡ 0
-  unused j l =
-      let i = j - 3 - length (r .acts) in
-      let e : j ≡ suc (suc (suc (length (r .acts) + i))) = omega arith in
-      rw (row-is, e) (getD-append-add (r .acts) _ i 0 ∙ zeros-at (mostActions - length (r .acts) + 3) i)
-
-  head : (getD (rowOf r) 0 0 ≡ r .next) × (getD (rowOf r) 1 0 ≡ r .outcome) × (getD (rowOf r) 2 0 ≡ length (r .acts))
-  unfolding rowOf
-  head = (refl, refl, refl)
-
-  pub row-sound : 1 ≤ r .next → r .next ≤ mostStates → r .outcome ≤ 2 → sound (rowOf r) ≡ true
-  unfolding sound among blank
-  row-sound a b c =
-      let e = every-all (λ j. eqb (getD (rowOf r) j 0) 0) (3 + length (r .acts)) rowSize (λ j l u. eq-eqb _ 0 (unused j l)) in
-      rw (
-        eq-eqb (length (rowOf r)) rowSize (row-length r),
-        head .0,
-        head .1,
-        head .2,
-        le-leb 1 (r .next) a,
-        le-leb (r .next) mostStates b,
-        le-leb (r .outcome) 2 c,
-        le-leb (length (r .acts)) mostActions h,
-      )
-      e
+number : (e : Edition) (s g i : ℕ) → 1 ≤ s → s ≤ mostStates e → firstSignal ≤ g → g ≤ lastSignal → i < each e
+    → Number e s g i (each e * (signalCount * (s - 1) + (g - firstSignal)) + i)
+number Plain s g i h1 h2 h3 h4 h5 = record { below = omega arith; state = omega arith; signal = omega arith; row = omega arith }
+number Guarded s g i h1 h2 h3 h4 h5 = record { below = omega arith; state = omega arith; signal = omega arith; row = omega arith }
 
 -- ## The slot
-module _ (d : List ℕ) (z : classOf d ≡ 0) where
-  acc : Accepted d
-  acc = accepted d z
-
-  row-is-step : (s g k : ℕ) → State d s → k / signalCount + 1 ≡ s → k % signalCount + firstSignal ≡ g → rowNo d k ≡ rowOf (step d s g)
+module _ {e : Edition} (d : List ℕ) (acc : Accepted e d) where
+  row-is : (s g i k : ℕ) → State d s → Number e s g i k → rowNo e d k ≡ getD (rowsOut d s g (outward d s)) i (behind e s)
   unfolding rowNo
-  row-is-step s g k h e f = rw (e, f, le-leb s (states d) (h .high))
+  row-is s g i k h n = rw (n .state, n .signal, n .row, le-leb s (states d) (h .high))
 
-  pub slot-row : (s g : ℕ) → State d s → isSignal g ≡ true → rowAt (slotBytes d) (place s g) ≡ rowOf (step d s g)
+  slot-row : (s g i : ℕ) → State d s → isSignal g ≡ true → i < each e
+      → rowAt (slotBytes e d) (place e s g i) ≡ getD (rowsOut d s g (outward d s)) i (behind e s)
   unfolding place
-  slot-row s g h e =
-      let l = h .low in
+  slot-row s g i h t l =
+      let b = signal-of g t in
+      let m = few e (states d) d (acc .forms) .1 in
       let u = h .high in
-      let b = signal-of g e in
-      let n = few-states d z in
-      let k = signalCount * (s - 1) + (g - firstSignal) in
-      slot-at d k (omega arith) ∙ row-is-step s g k h (omega arith) (omega arith)
+      let n = number e s g i (h .low) (omega arith) (b .0) (b .1) l in
+      slot-at e d _ (n .below) ∙ row-is s g i _ h n
 
-  pub step-sound : (s g : ℕ) → State d s → sound (rowOf (step d s g)) ≡ true
-  step-sound s g h =
-      let n = few-states d z in
-      let t = step-state d acc s g h in
-      let u = t .high in
-      row-sound (step d s g) (step-bound d acc s g h) (t .low) (omega arith) (step-outcome d acc s g)
+  -- what is read of the slot for a state and signal is the nested step
+  pub slot-reads : (isUp : Flags) (s g : ℕ) → State d s → isSignal g ≡ true → Reads e isUp s (rowsAt e (slotBytes e d) s g) (step d isUp s g)
+  slot-reads isUp s g h t = rw (tab-ext (λ i. rowAt (slotBytes e d) (place e s g i)) _ (each e) (λ i l. slot-row s g i h t l)) (reads d acc isUp s g h)
 
-  pub start-sound : sound (rowOf (start d)) ≡ true
-  start-sound =
-      let n = few-states d z in
-      let t = start-state d acc in
-      let u = t .high in
-      row-sound (start d) (start-bound d acc) (t .low) (omega arith) (start-outcome d acc)
+  start-agrees : answerOf (rowAt (slotBytes e d) 0) ≡ start d
+  start-agrees = ap answerOf (slot-start e d) ∙ answer-of 0 (start d) (start-good d acc .few)
 
-  -- the flat lookup is the nested step
-  pub step-agrees : (s g : ℕ) → State d s → isSignal g ≡ true → flatStep (slotBytes d) s g ≡ step d s g
-  step-agrees s g h e = ap answerOf (slot-row s g h e) ∙ answer-of (step d s g) (step-bound d acc s g h)
-
-  start-agrees : answerOf (rowAt (slotBytes d) 0) ≡ start d
-  start-agrees = ap answerOf (slot-start d) ∙ answer-of (start d) (start-bound d acc)
-
-  runs-agree : (gs : List ℕ) (s : ℕ) → State d s → signals gs ≡ true → run (flatStep (slotBytes d)) s gs ≡ run (step d) s gs
+  runs-agree : (ms : List Move) (isUp : Flags) (s : ℕ) → State d s → signals ms ≡ true → run (flatStep e (slotBytes e d)) isUp s ms ≡ run (step d) isUp s ms
   unfolding run signals
-  runs-agree [] s h e = refl
-  runs-agree (g ∷ gs) s h e =
-      let a = and-left (isSignal g) (signals gs) e in
-      rw (step-agrees s g h a, runs-agree gs (step d s g .next) (step-state d acc s g h) (and-right (isSignal g) (signals gs) e))
+  runs-agree [] isUp s h t = refl
+  runs-agree (signal g ∷ ms) isUp s h t =
+      let a = slot-reads isUp s g h (and-left (isSignal g) (signals ms) t) in
+      rw (a .gives, runs-agree ms isUp (step d isUp s g .next) (step-good d acc isUp s g h .rests) (and-right (isSignal g) (signals ms) t))
+  runs-agree (flag i v ∷ ms) isUp s h t = runs-agree ms (put i v isUp) s h t
 
-  pub agrees : Agrees d (slotBytes d)
+  pub agrees : Agrees e d (slotBytes e d)
   agrees = record {
     starts = start-agrees;
-    runs = λ gs e. rw start-agrees (runs-agree gs (start d .next) (start-state d acc) e);
+    runs = λ ms t. rw start-agrees (runs-agree ms _ (start d .next) (start-good d acc .rests) t);
   }
+
+  -- what the code's reading of the slot for a state and signal tells is the nested step
+  pub slot-reading : (isUp : Flags) (s g : ℕ) → State d s → isSignal g ≡ true
+      → let r = reading e isUp (slotBytes e d) (place e s g 0) (each e) in (isSound r ≡ true) × (answerAt (slotBytes e d) s r ≡ step d isUp s g)
+  slot-reading isUp s g h t =
+      let w = slot-reads isUp s g h t in
+      let fits = reading-sound e isUp (slotBytes e d) s g ∙ w .fits in
+      (fits, reading-gives e isUp (slotBytes e d) s g s fits ∙ w .gives)

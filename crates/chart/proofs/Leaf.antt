@@ -11,8 +11,9 @@ use lib.Dec.{eqb, ltb}
 use Rattle.ground.specs.Bools.{and-both, and-left, and-right, eq-or, no-yes}
 use Rattle.ground.specs.Every.{every-all, every-at}
 use Rattle.chart.specs.Chart.{ParentsStart, among, byte, classOf, leaf, parent, parentOk, states, topTarget}
+use Rattle.chart.specs.Flags.{Flags}
 use Rattle.chart.specs.Held.{settled}
-use Rattle.chart.specs.Numbers.{levels}
+use Rattle.chart.specs.Numbers.{Edition, levels}
 use Rattle.chart.specs.Step.{moved, start, step}
 use Rattle.chart.proofs.Accepted.{Accepted, State, accepted, is-state, parent-starts, settled-ends, settled-state, state-of, step-cases, top-state}
 use Rattle.chart.proofs.Steps.{settle-is}
@@ -47,17 +48,17 @@ module _ (d : List ℕ) where
       go false l = refl
       go true l = ⊎-elim (λ z. rw (eq-eqb p 0 z) refl) (λ n. rw (ne-eqb p 0 n, ne-eqb (byte d p 4) 0 (has-start n l)) refl) (eq-or p 0)
 
-module _ (d : List ℕ) (good : classOf d ≡ 0) where
-  acc : Accepted d
-  acc = accepted d good
+module _ (e : Edition) (d : List ℕ) (good : classOf e d ≡ 0) where
+  acc : Accepted e d
+  acc = accepted e d good
 
   pub parents-start : ParentsStart d
   unfolding leaf
-  parents-start s h e =
+  parents-start s h z =
       and-both (among (states d) s) _ h (every-all _ 1 (states d + 1) (λ t low high. ap not (ne-eqb (parent d t) s (no-child t (record { low = low; high = omega arith })))))
     where
       no-child : (t : ℕ) → State d t → parent d t ≡ s → ⊥
-      no-child t g q = parent-starts d acc t g (λ z. omega (arith, state-of d s h .low)) (rw q e)
+      no-child t g q = parent-starts d acc t g (λ n. omega (arith, state-of d s h .low)) (rw q z)
 
   settled-leaf : (s : ℕ) → State d s → leaf d (settled levels d s) ≡ true
   settled-leaf s h = parents-start (settled levels d s) (is-state d _ (settled-state d acc levels s h)) (settled-ends d acc s h)
@@ -70,5 +71,5 @@ module _ (d : List ℕ) (good : classOf d ≡ 0) where
   unfolding start
   start-leaf = rw (settle-is d levels (topTarget d) _) (settled-leaf (topTarget d) (top-state d acc))
 
-  pub step-leaf : (x g : ℕ) → leaf d x ≡ true → leaf d (step d x g .next) ≡ true
-  step-leaf x g h = step-cases d acc (λ r. leaf d (r .next) ≡ true) x g h (λ i. h) (λ s t a i k. moved-leaf x s t a k)
+  pub step-leaf : (isUp : Flags) (x g : ℕ) → leaf d x ≡ true → leaf d (step d isUp x g .next) ≡ true
+  step-leaf isUp x g h = step-cases d acc (λ r. leaf d (r .next) ≡ true) isUp x g h (λ i. h) (λ s t a i k. moved-leaf x s t a k)

@@ -3,8 +3,14 @@ pub mod Laws
 pub mod Walk
 pub mod Steps
 pub mod Accepted
-pub mod Index
 pub mod Rows
+pub mod Index
+pub mod OneRow
+pub mod InOrder
+pub mod Found
+pub mod Within
 pub mod Agree
+pub mod Unflagged
 pub mod Leaf
+pub mod Words
 pub mod Theorems

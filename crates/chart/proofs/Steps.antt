@@ -1,4 +1,4 @@
--- Laws of `settle`, `moved`, `start` and `step`, as the code makes them of its parts.
+-- Laws of `settle`, `moved`, `start` and `rowDoes`, as the code makes them of its parts.
 use mathlib.Core.List.{List, _++_, append-assoc, append-nil}
 use mathlib.Core.Logic.{⊎-elim}
 use mathlib.Core.Path.{_≡_, refl, sym, ap, _∙_}
@@ -6,9 +6,9 @@ use Prim.Native.Nat.{ℕ, zero, suc, _+_}
 use native.Mathlib.Omega.{arith}
 use borrow.Author.Tests.{eq-eqb, ne-eqb}
 use Rattle.ground.specs.Bools.{eq-or}
-use Rattle.chart.specs.Chart.{path, outward, byte, topTarget, topAction, rowFor}
+use Rattle.chart.specs.Chart.{path, outward, byte, topTarget, topAction}
 use Rattle.chart.specs.Held.{noActs, pushAll, settled, settling, settledOut, outOf}
-use Rattle.chart.specs.Step.{upTo, leave, enter, listed, limit, source, settle, moved, start, step}
+use Rattle.chart.specs.Step.{upTo, leave, enter, listed, limit, settle, moved, rowDoes, start}
 use Rattle.chart.specs.declared.step.Out.{Out}
 use Rattle.chart.proofs.Walk.{push-append, up-to-top, settled-stop, settled-suc, settling-stop, settling-suc}
 use Rattle.chart.specs.Numbers.{levels}
@@ -63,15 +63,10 @@ module _ (d : List ℕ) where
   unfolding start
   start-out = rw (up-to-top d levels (topTarget d)) (ap (settledOut d (topTarget d)) (push-append _ _ _) ∙ sym (settle-out (topTarget d) _))
 
-  pub step-ignored : (x g : ℕ) → source d x g ≡ 0 → _≡_ {A = Out} (record { next = x; outcome = 0; acts = noActs }) (outOf (step d x g))
-  unfolding outOf step pushAll
-  step-ignored x g e = rw (eq-eqb (source d x g) 0 e)
+  pub does-internal : (x s i : ℕ) → byte d i 3 ≡ 0 → _≡_ {A = Out} (record { next = x; outcome = 1; acts = pushAll noActs (listed (byte d i 5)) }) (outOf (rowDoes d x s i))
+  unfolding outOf rowDoes
+  does-internal x s i z = rw (eq-eqb (byte d i 3) 0 z)
 
-  module _ (x g s i : ℕ) (e : s ≡ source d x g) (n : s ≡ 0 → ⊥) (f : i ≡ rowFor d s g) where
-    pub step-internal : byte d i 3 ≡ 0 → _≡_ {A = Out} (record { next = x; outcome = 1; acts = pushAll noActs (listed (byte d i 5)) }) (outOf (step d x g))
-    unfolding outOf step
-    step-internal z = rw (← e, ne-eqb s 0 n, ← f, eq-eqb (byte d i 3) 0 z)
-
-    pub step-moved : (byte d i 3 ≡ 0 → ⊥) → outOf (moved d x s (byte d i 4) (byte d i 5)) ≡ outOf (step d x g)
-    unfolding outOf step
-    step-moved z = rw (← e, ne-eqb s 0 n, ← f, ne-eqb (byte d i 3) 0 z)
+  pub does-moved : (x s i : ℕ) → (byte d i 3 ≡ 0 → ⊥) → outOf (moved d x s (byte d i 4) (byte d i 5)) ≡ outOf (rowDoes d x s i)
+  unfolding outOf rowDoes
+  does-moved x s i z = rw (ne-eqb (byte d i 3) 0 z)

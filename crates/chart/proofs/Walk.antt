@@ -6,8 +6,8 @@ use Prim.Native.Nat.{ℕ, zero, suc, _+_, _-_, _≤_, _<_}
 use native.Mathlib.Omega.{arith}
 use borrow.Author.Tests.{eq-eqb, ne-eqb}
 use lib.Dec.{eqb}
-use Rattle.chart.specs.Chart.{path, parent, byte}
-use Rattle.chart.specs.Held.{pushed, pushAll, settled, settling, settledOut}
+use Rattle.chart.specs.Chart.{path, parent, byte, hasRow, flagOf}
+use Rattle.chart.specs.Held.{nthOut, pushed, pushAll, settled, settling, settledOut}
 use Rattle.chart.specs.Step.{firstOf, upTo, leave, enter, listed}
 use Rattle.chart.specs.declared.step.Acts.{Acts}
 use Rattle.chart.specs.declared.step.Out.{Out}
@@ -95,6 +95,33 @@ up-to-top-go : (s : ℕ) (p : List ℕ) → upTo 0 p ≡ p → (b : Bool) → eq
 unfolding upTo
 up-to-top-go s p h true e = refl
 up-to-top-go s p h false e = rw (e, h)
+
+-- Row i of those outward from s, one turn of at most k.
+module _ (d : List ℕ) (g : ℕ) where
+  pub nth-none : (i k s : ℕ) → k ≡ 0 → nthOut d g i (path k d s) ≡ 0
+  unfolding nthOut
+  nth-none i k s e = rw (path-none d k s e)
+
+  pub nth-top : (i k s : ℕ) → s ≡ 0 → nthOut d g i (path k d s) ≡ 0
+  unfolding nthOut
+  nth-top i k s e = rw (path-top d k s e)
+
+  module _ (i k s : ℕ) (m : k ≡ 0 → ⊥) (n : s ≡ 0 → ⊥) where
+    pub nth-pass : hasRow d g s ≡ false → nthOut d g i (path k d s) ≡ nthOut d g i (path (k - 1) d (parent d s))
+    unfolding nthOut
+    nth-pass h = rw (path-suc d k s m n, h)
+
+    pub nth-here : hasRow d g s ≡ true → i ≡ 0 → nthOut d g i (path k d s) ≡ s
+    unfolding nthOut
+    nth-here h e = rw (path-suc d k s m n, h, eq-eqb i 0 e)
+
+    pub nth-last : hasRow d g s ≡ true → (i ≡ 0 → ⊥) → flagOf d g s ≡ 0 → nthOut d g i (path k d s) ≡ 0
+    unfolding nthOut
+    nth-last h e f = rw (path-suc d k s m n, h, ne-eqb i 0 e, eq-eqb (flagOf d g s) 0 f)
+
+    pub nth-next : hasRow d g s ≡ true → (i ≡ 0 → ⊥) → (flagOf d g s ≡ 0 → ⊥) → nthOut d g i (path k d s) ≡ nthOut d g (i - 1) (path (k - 1) d (parent d s))
+    unfolding nthOut
+    nth-next h e f = rw (path-suc d k s m n, h, ne-eqb i 0 e, ne-eqb (flagOf d g s) 0 f)
 
 -- Initial transitions, one turn.
 module _ (d : List ℕ) where

@@ -1,4 +1,4 @@
--- Document 01, "Charts": the records, the states and rows that they are, and the class of a chart's fault.
+-- Document 01, "Charts", and document 02, request 8: the records, the states and rows that they are, and the class of a chart's fault.
 use mathlib.Core.Bool.{Bool, true, false, cond, not, _&&_, _||_}
 use mathlib.Core.List.{List, [], _∷_}
 use mathlib.Core.Path.{_≡_}
@@ -7,7 +7,7 @@ use lib.Dec.{ltb, leb, eqb}
 use lib.ListN.{length, getD, drop}
 use Rattle.ground.specs.Bytes.{blank}
 use Rattle.ground.specs.Range.{every, firstFrom}
-use Rattle.chart.specs.Numbers.{longest, mostStates, levels, firstSignal, lastSignal}
+use Rattle.chart.specs.Numbers.{Edition, longest, mostStates, mostFlag, rowFiller, levels, firstSignal, lastSignal}
 
 -- Record i is the part of the chart that starts at byte 8 × i; `byte d i k` is its byte k, 0 past the chart's end.
 abbrev pub recordAt : List ℕ → ℕ → List ℕ
@@ -46,9 +46,16 @@ initialAction d s = byte d s 5
 unfoldable pub states : List ℕ → ℕ
 states d = firstFrom (λ i. not (eqb (byte d i 0) 1)) 1 (records d - 1) - 1
 
--- A row is (2, state, signal, kind, target, action, 0, 0). That of state s and signal g is the first with these two; `records d`: none.
+-- A row is (2, state, signal, kind, target, action, flag, 0). That of state s and signal g is the first with these two; `records d`: none.
 unfoldable pub rowFor : List ℕ → ℕ → ℕ → ℕ
 rowFor d s g = firstFrom (λ i. eqb (byte d i 0) 2 && (eqb (byte d i 1) s && eqb (byte d i 2) g)) 0 (records d)
+
+abbrev pub hasRow : List ℕ → ℕ → ℕ → Bool
+hasRow d g s = ltb (rowFor d s g) (records d)
+
+-- The flag that it names, 0 for none; the rows of a plain chart have none.
+abbrev pub flagOf : List ℕ → ℕ → ℕ → ℕ
+flagOf d g s = byte d (rowFor d s g) 6
 
 -- s, the state that contains it, and so on outward: at most k of them.
 unfoldable pub path : ℕ → List ℕ → ℕ → List ℕ
@@ -73,12 +80,12 @@ among n s = leb 1 s && leb s n
 unfoldable pub isSignal : ℕ → Bool
 isSignal g = leb firstSignal g && leb g lastSignal
 
--- Class 2, of a chart with n states: record 0 has kind 3, the next n kind 1, the others kind 2; filler bytes are 0; n is 1 to 24.
-unfoldable pub formOk : ℕ → List ℕ → Bool
-formOk k r = eqb (getD r 0 0) k && blank r (cond (eqb k 3) 3 6) 8
+-- Class 2, of a chart with n states: record 0 has kind 3, the next n kind 1, the others kind 2; filler bytes are 0; n is 1 to 24, or to 8.
+unfoldable pub formOk : Edition → ℕ → List ℕ → Bool
+formOk e k r = eqb (getD r 0 0) k && blank r (cond (eqb k 3) 3 (cond (eqb k 1) 6 (rowFiller e))) 8
 
-unfoldable pub formsOk : ℕ → List ℕ → Bool
-formsOk n d = every (λ i. formOk (cond (eqb i 0) 3 (cond (leb i n) 1 2)) (recordAt d i)) 0 (records d) && among mostStates n
+unfoldable pub formsOk : Edition → ℕ → List ℕ → Bool
+formsOk e n d = every (λ i. formOk e (cond (eqb i 0) 3 (cond (leb i n) 1 2)) (recordAt d i)) 0 (records d) && among (mostStates e) n
 
 -- Class 3: a state's parent p is lower and, if it is a state, has an initial target (document 02, request 1);
 unfoldable pub parentOk : List ℕ → ℕ → ℕ → Bool
@@ -95,27 +102,28 @@ stateOk n d s r =
 unfoldable pub treeOk : ℕ → List ℕ → Bool
 treeOk n d = among n (topTarget d) && every (λ s. stateOk n d s (recordAt d s)) 1 (n + 1)
 
--- Class 4: a row's state, its signal, its target by its kind, 0 internal or 1 a transition; and rows ascend by state, then signal.
+-- Class 4: a row's state, its signal, its target by its kind, 0 internal or 1 a transition, its flag; and rows ascend by state, then signal.
 abbrev pub key : List ℕ → ℕ
 key r = 256 * getD r 1 0 + getD r 2 0
 
-unfoldable pub rowOk : ℕ → ℕ → List ℕ → Bool
-rowOk n before r =
+unfoldable pub rowOk : Edition → ℕ → ℕ → List ℕ → Bool
+rowOk e n before r =
     among n (getD r 1 0)
     && (isSignal (getD r 2 0)
     && (cond (eqb (getD r 3 0) 0) (eqb (getD r 4 0) 0) (eqb (getD r 3 0) 1 && among n (getD r 4 0))
-    && ltb before (key r)))
+    && (leb (getD r 6 0) (mostFlag e)
+    && ltb before (key r))))
 
-unfoldable pub rowsOk : ℕ → List ℕ → Bool
-rowsOk n d = every (λ i. rowOk n (cond (eqb i (n + 1)) 0 (key (recordAt d (i - 1)))) (recordAt d i)) (n + 1) (records d)
+unfoldable pub rowsOk : Edition → ℕ → List ℕ → Bool
+rowsOk e n d = every (λ i. rowOk e n (cond (eqb i (n + 1)) 0 (key (recordAt d (i - 1)))) (recordAt d i)) (n + 1) (records d)
 
 -- The class of a chart's fault, the lowest that applies; 0 for a good chart.
-unfoldable pub classOf : List ℕ → ℕ
-classOf d =
+unfoldable pub classOf : Edition → List ℕ → ℕ
+classOf e d =
     cond (lengthOk d)
-    (cond (formsOk (states d) d)
+    (cond (formsOk e (states d) d)
     (cond (treeOk (states d) d)
-    (cond (rowsOk (states d) d) 0 4) 3) 2) 1
+    (cond (rowsOk e (states d) d) 0 4) 3) 2) 1
 
 -- s is a leaf: a state that is no state's parent.
 unfoldable pub leaf : List ℕ → ℕ → Bool

@@ -7,7 +7,8 @@ use Rattle.ground.specs.Bytes
 use Rattle.ground.specs.Range
 use Rattle.chart.specs.Chart
 use Rattle.chart.specs.Chart.{classOf, among, states}
-use Rattle.chart.specs.Numbers.{mostActions}
+use Rattle.chart.specs.Flags.{allDown}
+use Rattle.chart.specs.Numbers.{mostActions, Plain}
 use Rattle.chart.specs.Step
 use Rattle.chart.specs.Step.{step}
 
@@ -24,12 +25,12 @@ deep =
 
 -- It is a good one, and signal 4 at rest in its innermost state lists 18 actions.
 pub record Reaches : Type 0 where
-  pub good : classOf deep ≡ 0
+  pub good : classOf Plain deep ≡ 0
   pub actions :
-      step deep 6 4 .acts
+      step deep allDown 6 4 .acts
       ≡ 40 ∷ 26 ∷ 25 ∷ 24 ∷ 23 ∷ 22 ∷ 21 ∷ 11 ∷ 31 ∷ 12 ∷ 32 ∷ 13 ∷ 33 ∷ 14 ∷ 34 ∷ 15 ∷ 35 ∷ 16 ∷ []
-  pub count : length (step deep 6 4 .acts) ≡ mostActions
+  pub count : length (step deep allDown 6 4 .acts) ≡ mostActions
 
 pub deep-reaches : Reaches
-unfolding deep Range.firstFrom Range.everyFrom Chart.byte Chart.parent Chart.states Chart.rowFor Chart.path Chart.has Chart.lengthOk Chart.among Chart.isSignal Bytes.blank Bytes.padded Chart.formOk Chart.formsOk Chart.parentOk Chart.stateOk Chart.treeOk Chart.rowOk Chart.rowsOk Chart.classOf Step.listed Step.upTo Step.leave Step.enter Step.firstOf Step.limit Step.settle Step.moved Step.step
+unfolding deep Range.firstFrom Range.everyFrom Chart.byte Chart.parent Chart.states Chart.rowFor Chart.path Chart.has Chart.lengthOk Chart.among Chart.isSignal Bytes.blank Bytes.padded Chart.formOk Chart.formsOk Chart.parentOk Chart.stateOk Chart.treeOk Chart.rowOk Chart.rowsOk Chart.classOf Step.listed Step.upTo Step.leave Step.enter Step.firstOf Step.limit Step.settle Step.moved Step.rowDoes Step.answerBy Step.step
 deep-reaches = record { good = refl; actions = refl; count = refl }

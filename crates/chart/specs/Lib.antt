@@ -1,7 +1,9 @@
 pub mod Numbers
+pub mod Flags
 pub mod Chart
 pub mod Step
 pub mod Flat
 pub mod Held
 pub mod Shift
 pub mod Deep
+pub mod Alarm

@@ -9,8 +9,10 @@ use Rattle.ground.specs.Bytes
 use Rattle.ground.specs.Range
 use Rattle.chart.specs.Chart
 use Rattle.chart.specs.Chart.{classOf}
+use Rattle.chart.specs.Flags.{allDown}
 use Rattle.chart.specs.Flat
 use Rattle.chart.specs.Flat.{place, rowAt, slotBytes}
+use Rattle.chart.specs.Numbers.{Plain}
 use Rattle.chart.specs.Step
 use Rattle.chart.specs.Step.{Answer, step, start}
 
@@ -53,15 +55,15 @@ cases =
     ∷ []
 
 pub given : Case → Answer
-given k = cond (eqb (k .rest) 0) (start shift) (step shift (k .rest) (k .signal))
+given k = cond (eqb (k .rest) 0) (start shift) (step shift allDown (k .rest) (k .signal))
 
 -- The chart is a good one; the definitions give what the documents state, in every case; and the row of (4, 8) stands where they say.
 pub record Stated : Type 0 where
-  pub good : classOf shift ≡ 0
+  pub good : classOf Plain shift ≡ 0
   pub answers : map given cases ≡ map (λ k. k .answer) cases
-  pub begins : place 4 8 ≡ 2136
-  pub row : rowAt (slotBytes shift) 2136 ≡ 5 ∷ 2 ∷ 3 ∷ 38 ∷ 42 ∷ 51 ∷ replicate 18 0
+  pub begins : place Plain 4 8 0 ≡ 2136
+  pub row : rowAt (slotBytes Plain shift) 2136 ≡ 5 ∷ 2 ∷ 3 ∷ 38 ∷ 42 ∷ 51 ∷ replicate 18 0
 
 pub shift-stated : Stated
-unfolding shift cases was given Range.firstFrom Range.everyFrom Chart.byte Chart.parent Chart.states Chart.rowFor Chart.path Chart.has Chart.lengthOk Chart.among Chart.isSignal Bytes.blank Bytes.padded Chart.formOk Chart.formsOk Chart.parentOk Chart.stateOk Chart.treeOk Chart.rowOk Chart.rowsOk Chart.classOf Step.listed Step.upTo Step.leave Step.enter Step.firstOf Step.limit Step.settle Step.moved Step.step Step.start Flat.rowOf Flat.rowNo Flat.rowsFrom Flat.slotBytes Flat.place
+unfolding shift cases was given Range.firstFrom Range.everyFrom Chart.byte Chart.parent Chart.states Chart.rowFor Chart.path Chart.has Chart.lengthOk Chart.among Chart.isSignal Bytes.blank Bytes.padded Chart.formOk Chart.formsOk Chart.parentOk Chart.stateOk Chart.treeOk Chart.rowOk Chart.rowsOk Chart.classOf Step.listed Step.upTo Step.leave Step.enter Step.firstOf Step.limit Step.settle Step.moved Step.rowDoes Step.answerBy Step.step Step.start Flat.rowOf Flat.rowsOut Flat.behind Flat.rowNo Flat.rowsFrom Flat.slotBytes Flat.place
 shift-stated = record { good = refl; answers = refl; begins = refl; row = refl }

@@ -1,9 +1,10 @@
--- Document 01, "A step.", and document 02, request 2: what a chart d does with a signal.
-use mathlib.Core.Bool.{Bool, cond}
+-- Document 01, "A step.", and document 02, requests 2 and 8: what a chart d does with a signal.
+use mathlib.Core.Bool.{Bool, cond, _&&_}
 use mathlib.Core.List.{List, [], _∷_, _++_}
 use Prim.Native.Nat.{ℕ, zero, suc}
-use lib.Dec.{eqb, ltb}
-use Rattle.chart.specs.Chart.{byte, records, parent, entryOf, exitOf, initial, initialAction, topTarget, topAction, rowFor, outward, has}
+use lib.Dec.{eqb}
+use Rattle.chart.specs.Chart.{byte, parent, entryOf, exitOf, initial, initialAction, topTarget, topAction, rowFor, hasRow, flagOf, outward, has}
+use Rattle.chart.specs.Flags.{Flags, isOpen}
 use Rattle.chart.specs.Numbers.{levels}
 
 -- The state of rest after the step, the outcome (0 ignored, 1 internal, 2 transition), and the actions in order.
@@ -35,9 +36,9 @@ unfoldable pub firstOf : (ℕ → Bool) → List ℕ → ℕ
 firstOf p [] = 0
 firstOf p (s ∷ ss) = cond (p s) s (firstOf p ss)
 
--- From the state of rest x outward to the first state, the source, with a row for the signal g.
-abbrev pub source : List ℕ → ℕ → ℕ → ℕ
-source d x g = firstOf (λ s. ltb (rowFor d s g) (records d)) (outward d x)
+-- From the state of rest x outward to the first state, the source, with an open row for the signal g.
+abbrev pub source : List ℕ → Flags → ℕ → ℕ → ℕ
+source d isUp x g = firstOf (λ s. hasRow d g s && isOpen isUp (flagOf d g s)) (outward d x)
 
 -- Up to it the source s is left, from it t is entered: the innermost state that contains, or is, both; if t is s, the state that contains s.
 unfoldable pub limit : List ℕ → ℕ → ℕ → ℕ
@@ -60,14 +61,21 @@ moved d x s t a =
     ++ (leave d (upTo (limit d s t) (outward d s))
     ++ enter d (upTo (limit d s t) (outward d t)))))
 
--- Row i is (2, state, signal, kind, target, action, 0, 0), kind 0 internal.
-unfoldable pub step : List ℕ → ℕ → ℕ → Answer
-step d x g =
-    let s = source d x g in
-    let i = rowFor d s g in
-    cond (eqb s 0) (record { next = x; outcome = 0; acts = [] })
-    (cond (eqb (byte d i 3) 0) (record { next = x; outcome = 1; acts = listed (byte d i 5) })
-    (moved d x s (byte d i 4) (byte d i 5)))
+-- What row i of the source s does at rest x. It is (2, state, signal, kind, target, action, flag, 0), kind 0 internal.
+unfoldable pub rowDoes : List ℕ → ℕ → ℕ → ℕ → Answer
+rowDoes d x s i =
+    cond (eqb (byte d i 3) 0) (record { next = x; outcome = 1; acts = listed (byte d i 5) })
+    (moved d x s (byte d i 4) (byte d i 5))
+
+-- What the row for g of the source s does. No source, 0: ignored, nothing changes.
+abbrev pub ignored : ℕ → Answer
+ignored x = record { next = x; outcome = 0; acts = [] }
+
+unfoldable pub answerBy : List ℕ → ℕ → ℕ → ℕ → Answer
+answerBy d x g s = cond (eqb s 0) (ignored x) (rowDoes d x s (rowFor d s g))
+
+unfoldable pub step : List ℕ → Flags → ℕ → ℕ → Answer
+step d isUp x g = answerBy d x g (source d isUp x g)
 
 -- Start: top action, entries, then the same.
 unfoldable pub start : List ℕ → Answer

@@ -1,10 +1,19 @@
 // Reading a chart: its records' bytes, its states, and which lies in which.
 ghost use mathlib.Core.Path.{_≡_};
-ghost use Prim.Native.Nat.{_+_, _*_, _<_};
+ghost use Prim.Native.Nat.{_+_, _*_, _<_, _≤_};
 ghost use Rattle.chart.specs.Chart.{among, byte, has, isSignal, outward, parent, states};
+ghost use Rattle.chart.specs.Numbers.{Plain, mostFlag, mostStates, rowFiller};
 
-// The most states and levels of a chart, and the signals as bytes.
+// The two editions of charts: the plain ones, and those whose rows may name a flag.
+pub enum Edition {
+    Plain,
+    Guarded,
+}
+
+// The most states of a plain and of a guarded chart, the levels of either, and the signals as bytes.
 pub const MOST_STATES: usize = 24;
+
+pub const MOST_GUARDED_STATES: usize = 8;
 
 pub const LEVELS: usize = 6;
 
@@ -22,6 +31,38 @@ pub const EXIT: usize = 3;
 pub const INITIAL: usize = 4;
 
 pub const INITIAL_ACTION: usize = 5;
+
+// Where a row's record has its flag.
+pub const FLAG: usize = 6;
+
+// By the edition: the most states, and the highest flag that a row may name.
+pub fn most_states(e: Edition) -> usize
+    ensures { λ r. ⌜ (r ≡ mostStates e) × (r ≤ mostStates Plain) ⌝ }
+{
+    match e {
+        Edition::Plain => MOST_STATES,
+        Edition::Guarded => MOST_GUARDED_STATES,
+    }
+}
+
+pub fn most_flag(e: Edition) -> u8
+    ensures { λ r. ⌜ r ≡ mostFlag e ⌝ }
+{
+    match e {
+        Edition::Plain => 0,
+        Edition::Guarded => numbers::FLAGS as u8,
+    }
+}
+
+// Where the filler of a row's record begins.
+pub fn row_filler(e: Edition) -> usize
+    ensures { λ r. ⌜ r ≡ rowFiller e ⌝ }
+{
+    match e {
+        Edition::Plain => FLAG,
+        Edition::Guarded => FLAG + 1,
+    }
+}
 
 // Byte k of record i, 0 past the chart's end.
 pub fn field(chart: &[u8], i: usize, k: usize) -> u8

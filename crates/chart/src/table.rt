@@ -1,25 +1,34 @@
 // The flat table of a chart: the index of the chart's rows, the steps by it, and their bytes.
-ghost use mathlib.Core.List.{_++_};
+ghost use mathlib.Core.List.{_∷_, _++_};
 ghost use mathlib.Core.Path.{_≡_};
-ghost use Prim.Native.Nat.{_-_, _<_, _≤_};
-ghost use lib.ListN.{drop, getD, length};
-ghost use Rattle.chart.specs.Chart.{classOf, states};
-ghost use Rattle.chart.specs.Flat.{rowNo, slotBytes};
-ghost use Rattle.chart.specs.Held.{Ready, noted, outOf, rowBytes, rowIndex, rowNumber};
-ghost use Rattle.chart.specs.Numbers.{firstSignal, lastSignal, longest, mostStates, rowCount, rowSize, slotSize};
-ghost use Rattle.chart.specs.Step.{source, step};
+ghost use Prim.Native.Nat.{_+_, _-_, _*_, _/_, _%_, _<_, _≤_};
+ghost use lib.ListN.{drop, getD, length, replicate};
+ghost use Rattle.chart.specs.Chart.{classOf, outward, path, states};
+ghost use Rattle.chart.specs.Flat.{behind, rowNo, rowsOut, slotBytes};
+ghost use Rattle.chart.specs.Held.{Ready, noted, nthOut, outOf, rowBytes, rowIndex, rowNumber};
+ghost use Rattle.chart.specs.Numbers.{Guarded, Plain, each, firstSignal, lastSignal, longest, mostStates, rowCount, rowSize, signalCount, slotSize};
+ghost use Rattle.chart.specs.Step.{rowDoes};
 use super::read::*;
 use super::step::*;
 use numbers::ACTIONS_IN_ROW;
+use numbers::FLAG_IN_ROW;
 use numbers::ROW_BYTES;
 
-// Where the three zeros of a row begin.
-const ZEROS: usize = 21;
-
-// Signals, and rows behind the start row.
+// How many signals there are. For each state and signal a guarded table has a row for each level, a plain table one.
 pub const SIGNALS: usize = numbers::LAST_SIGNAL - numbers::FIRST_SIGNAL + 1;
 
+pub const GUARDED_ROWS: usize = LEVELS;
+
+const GUARDED_STATE_ROWS: usize = SIGNALS * GUARDED_ROWS;
+
+// The rows behind the start row of a plain table; the index has as many places, in either edition.
 const ROWS: usize = MOST_STATES * SIGNALS;
+
+// A row of the table: its flag, and what it does.
+pub struct Row {
+    pub flag: u8,
+    pub out: Out,
+}
 
 // x less y, 0 where y is more.
 fn less(x: u8, y: u8) -> usize
@@ -47,7 +56,7 @@ fn record_number(x: u16) -> usize
 
 // Enters record i, if it is a row, into the index.
 fn note(index: &mut [u16; ROWS], part: &[u8], i: u16)
-    requires { ⌜ (8 ≤ length (now part)) × (length (now index) ≡ rowCount) ⌝ }
+    requires { ⌜ (8 ≤ length (now part)) × (length (now index) ≡ rowCount Plain) ⌝ }
     ensures { λ _. ⌜ now (index .exit) ≡ noted (now (part .entry)) i (now (index .entry)) ⌝ }
 {
     if part[0] != 2 {
@@ -82,48 +91,43 @@ fn index_rows(chart: &[u8]) -> [u16; ROWS]
 
 // The record of the row for state s and signal g, by the index.
 fn row_of(index: &[u16; ROWS], s: u8, g: u8) -> usize
-    requires { ⌜ (length (now index) ≡ rowCount) × (s ≤ mostStates) × (firstSignal ≤ g) × (g ≤ lastSignal) ⌝ }
+    requires { ⌜ (length (now index) ≡ rowCount Plain) × (s ≤ mostStates Plain) × (firstSignal ≤ g) × (g ≤ lastSignal) ⌝ }
     ensures { λ r. ⌜ (r ≡ getD (now (index .entry)) (rowNumber s g) 0) × (r < 65536) ⌝ }
 {
     let k = row_number(s, g);
     record_number(index[k])
 }
 
-// From rest x outward to the first state with a row for the signal g, 0 where there is none.
-fn find_source(chart: &[u8], index: &[u16; ROWS], x: u8, g: u8) -> u8
-    requires { ⌜ Ready (now chart) (now index) x g ⌝ }
-    ensures { λ r. ⌜ (r ≡ source (now (chart .entry)) x g) × (r ≤ states (now (chart .entry))) ⌝ }
+// The state whose row is row i of those outward from s for the signal g, up to and with the first without a flag; 0 where there are fewer.
+// k bounds how far outward it looks.
+fn find_holder(chart: &[u8], index: &[u16; ROWS], k: usize, s: u8, g: u8, i: usize) -> u8
+    requires { ⌜ Ready (now chart) (now index) s g ⌝ }
+    ensures { λ r. ⌜ (r ≡ nthOut (now (chart .entry)) g i (path k (now (chart .entry)) s)) × (r ≤ states (now (chart .entry))) ⌝ }
 {
-    let e = chart.len() / 8;
-    let mut s = x;
-    let mut k: usize = 0;
-    while k < LEVELS {
-        if s == 0 {
-            return 0;
-        }
-        if row_of(index, s, g) < e {
-            return s;
-        }
-        s = parent_of(chart, s);
-        k += 1;
+    if k == 0 {
+        return 0;
     }
-    0
+    if s == 0 {
+        return 0;
+    }
+    let j = row_of(index, s, g);
+    if chart.len() / 8 <= j {
+        return find_holder(chart, index, k - 1, parent_of(chart, s), g, i);
+    }
+    if i == 0 {
+        return s;
+    }
+    if field(chart, j, FLAG) == 0 {
+        return 0;
+    }
+    find_holder(chart, index, k - 1, parent_of(chart, s), g, i - 1)
 }
 
-// What the chart does at rest x with the signal g.
-fn step_of(chart: &[u8], index: &[u16; ROWS], x: u8, g: u8) -> Out
-    requires { ⌜ Ready (now chart) (now index) x g ⌝ }
-    ensures { λ r. ⌜ r ≡ outOf (step (now (chart .entry)) x g) ⌝ }
+// What row i of the source s does at rest x.
+fn row_does(chart: &[u8], x: u8, s: u8, i: usize) -> Out
+    requires { ⌜ i < 65536 ⌝ }
+    ensures { λ r. ⌜ r ≡ outOf (rowDoes (now (chart .entry)) x s i) ⌝ }
 {
-    let s = find_source(chart, index, x, g);
-    if s == 0 {
-        return Out {
-            next: x,
-            outcome: 0,
-            acts: no_acts(),
-        };
-    }
-    let i = row_of(index, s, g);
     if field(chart, i, 3) == 0 {
         return Out {
             next: x,
@@ -134,38 +138,125 @@ fn step_of(chart: &[u8], index: &[u16; ROWS], x: u8, g: u8) -> Out
     move_to(chart, x, s, field(chart, i, 4), field(chart, i, 5))
 }
 
-// Row k behind the start row, of a chart with n states.
-fn row_no(chart: &[u8], index: &[u16; ROWS], n: usize, k: usize) -> Out
-    requires { ⌜ (classOf (now chart) ≡ 0) × (now index ≡ rowIndex (now chart)) × (n ≡ states (now chart)) × (k < rowCount) ⌝ }
-    ensures { λ r. ⌜ rowBytes r ≡ rowNo (now (chart .entry)) k ⌝ }
+// A row with no action and no flag.
+fn still(next: u8) -> Row
+    ensures { λ r. ⌜ rowBytes r ≡ next ∷ replicate (rowSize - 1) 0 ⌝ }
 {
-    let s = k / SIGNALS + 1;
-    let g = (k % SIGNALS) as u8 + FIRST_SIGNAL;
-    if s <= n {
-        return step_of(chart, index, s as u8, g);
-    }
-    Out {
-        next: 0,
-        outcome: 0,
-        acts: no_acts(),
+    Row {
+        flag: 0,
+        out: Out {
+            next: next,
+            outcome: 0,
+            acts: no_acts(),
+        },
     }
 }
 
+// What stands behind the rows for state x: an ignored step, or zeros.
+fn row_behind(e: Edition, x: u8) -> Row
+    ensures { λ r. ⌜ rowBytes r ≡ behind e x ⌝ }
+{
+    match e {
+        Edition::Plain => still(x),
+        Edition::Guarded => still(0),
+    }
+}
+
+// Row i for state x and signal g.
+fn row_out(e: Edition, chart: &[u8], index: &[u16; ROWS], x: u8, g: u8, i: usize) -> Row
+    requires { ⌜ (Ready (now chart) (now index) x g) × (1 ≤ x) ⌝ }
+    ensures { λ r. ⌜ rowBytes r ≡ getD (rowsOut (now (chart .entry)) x g (outward (now (chart .entry)) x)) i (behind e x) ⌝ }
+{
+    let s = find_holder(chart, index, LEVELS, x, g, i);
+    if s == 0 {
+        return row_behind(e, x);
+    }
+    let j = row_of(index, s, g);
+    Row {
+        flag: field(chart, j, FLAG),
+        out: row_does(chart, x, s, j),
+    }
+}
+
+// The bytes of a table.
+pub fn slot_bytes(e: Edition) -> usize
+    ensures { λ r. ⌜ r ≡ slotSize e ⌝ }
+{
+    match e {
+        Edition::Plain => numbers::SLOT_BYTES,
+        Edition::Guarded => numbers::GUARDED_AREA,
+    }
+}
+
+// The rows of a table behind the start row; the state and the signal of row k, and which of their rows it is.
+fn rows_in(e: Edition) -> usize
+    ensures { λ r. ⌜ (r ≡ rowCount e) × (r ≤ rowCount Guarded) × (slotSize e ≡ rowSize * r + rowSize) ⌝ }
+{
+    match e {
+        Edition::Plain => ROWS,
+        Edition::Guarded => MOST_GUARDED_STATES * GUARDED_STATE_ROWS,
+    }
+}
+
+fn state_at(e: Edition, k: usize) -> usize
+    requires { ⌜ k < rowCount Guarded ⌝ }
+    ensures { λ r. ⌜ (r ≡ k / (signalCount * each e) + 1) × (1 ≤ r) ⌝ }
+{
+    match e {
+        Edition::Plain => k / SIGNALS + 1,
+        Edition::Guarded => k / GUARDED_STATE_ROWS + 1,
+    }
+}
+
+fn signal_at(e: Edition, k: usize) -> u8
+    ensures { λ r. ⌜ (r ≡ k / each e % signalCount + firstSignal) × (firstSignal ≤ r) × (r ≤ lastSignal) ⌝ }
+{
+    match e {
+        Edition::Plain => (k % SIGNALS) as u8 + FIRST_SIGNAL,
+        Edition::Guarded => (k / GUARDED_ROWS % SIGNALS) as u8 + FIRST_SIGNAL,
+    }
+}
+
+fn which_at(e: Edition, k: usize) -> usize
+    ensures { λ r. ⌜ r ≡ k % each e ⌝ }
+{
+    match e {
+        Edition::Plain => 0,
+        Edition::Guarded => k % GUARDED_ROWS,
+    }
+}
+
+// Row k behind the start row, of a chart with n states.
+fn row_no(e: Edition, chart: &[u8], index: &[u16; ROWS], n: usize, k: usize) -> Row
+    requires { ⌜ (classOf e (now chart) ≡ 0) × (now index ≡ rowIndex (now chart)) × (n ≡ states (now chart)) × (k < rowCount Guarded) ⌝ }
+    ensures { λ r. ⌜ rowBytes r ≡ rowNo e (now (chart .entry)) k ⌝ }
+{
+    let s = state_at(e, k);
+    if s <= n {
+        return row_out(e, chart, index, s as u8, signal_at(e, k), which_at(e, k));
+    }
+    still(0)
+}
+
 // Byte j of a row.
-fn row_byte(r: Out, j: usize) -> u8
+fn row_byte(r: Row, j: usize) -> u8
     ensures { λ b. ⌜ b ≡ getD (rowBytes r) j 0 ⌝ }
 {
+    let out = r.out;
     if j == 0 {
-        return r.next;
+        return out.next;
     }
     if j == 1 {
-        return r.outcome;
+        return out.outcome;
     }
-    let acts = r.acts;
+    let acts = out.acts;
     if j == 2 {
         return acts.n;
     }
-    if ZEROS <= j {
+    if j == FLAG_IN_ROW {
+        return r.flag;
+    }
+    if FLAG_IN_ROW < j {
         return 0;
     }
     let i = j - ACTIONS_IN_ROW;
@@ -173,7 +264,7 @@ fn row_byte(r: Out, j: usize) -> u8
 }
 
 // A row, at the start of the part.
-fn write_row(part: &mut [u8], r: Out)
+fn write_row(part: &mut [u8], r: Row)
     requires { ⌜ rowSize ≤ length (now part) ⌝ }
     ensures { λ _. ⌜ now (part .exit) ≡ rowBytes r ++ drop rowSize (now (part .entry)) ⌝ }
 {
@@ -185,17 +276,22 @@ fn write_row(part: &mut [u8], r: Out)
 }
 
 // The slot of a good chart, row by row.
-pub fn fill_table(chart: &[u8], table: &mut [u8])
-    requires { ⌜ (classOf (now chart) ≡ 0) × (length (now table) ≡ slotSize) ⌝ }
-    ensures { λ _. ⌜ now (table .exit) ≡ slotBytes (now (chart .entry)) ⌝ }
+pub fn fill_table(e: Edition, chart: &[u8], table: &mut [u8])
+    requires { ⌜ (classOf e (now chart) ≡ 0) × (length (now table) ≡ slotSize e) ⌝ }
+    ensures { λ _. ⌜ now (table .exit) ≡ slotBytes e (now (chart .entry)) ⌝ }
 {
     let n = state_count(chart);
     let index = index_rows(chart);
-    write_row(table, start_of(chart));
+    let rows = rows_in(e);
+    let first = Row {
+        flag: 0,
+        out: start_of(chart),
+    };
+    write_row(table, first);
     let mut k: usize = 0;
-    while k < ROWS {
+    while k < rows {
         let at = ROW_BYTES * k + ROW_BYTES;
-        write_row(&mut table[at..], row_no(chart, &index, n, k));
+        write_row(&mut table[at..], row_no(e, chart, &index, n, k));
         k += 1;
     }
 }

@@ -13,6 +13,7 @@ ghost use Rattle.io.specs.Counts.{Counts};
 ghost use Rattle.state.specs.View.{Good};
 use kernel::Answered;
 use kernel::Kernel;
+use numbers::GUARDED_AREA;
 use numbers::LOG_AREA;
 use numbers::PAYLOAD_AREA;
 use numbers::TABLE_AREA;
@@ -50,15 +51,16 @@ fn answer(
     chart: &[u8],
     payloads: &mut [u8],
     tables: &mut [u8],
+    guarded: &mut [u8],
     log: &mut [u8],
 ) -> Answered
     requires { ⌜ Good k ⌝ }
     ensures { λ r. ⌜ Good (r .kernel) ⌝ }
 {
     if chart.len() == 0 {
-        return player::answer(k, record, player::HERE, payloads, tables, log);
+        return player::answer(k, record, player::HERE, payloads, tables, guarded, log);
     }
-    kernel::command(k, record, chart, payloads, tables, log)
+    kernel::command(k, record, chart, payloads, tables, guarded, log)
 }
 
 // Has a command answered with the chart before it, which no later command is lent, and writes its line with the reply.
@@ -69,6 +71,7 @@ fn answer_command(
     chart: &[u8],
     payloads: &mut [u8],
     tables: &mut [u8],
+    guarded: &mut [u8],
     log: &mut [u8],
 ) -> Run
     requires { ⌜ Good (run .kernel) ⌝ }
@@ -80,7 +83,7 @@ fn answer_command(
     let n = run.written;
     let bytes = record.bytes;
     let size = io::count(record.size as isize, &bytes);
-    let answered = answer(k, &bytes[..size], &chart[..n], payloads, tables, log);
+    let answered = answer(k, &bytes[..size], &chart[..n], payloads, tables, guarded, log);
     let reply = answered.reply;
     text::write(text::with_reply(line, reply));
     let next = answered.kernel;
@@ -121,7 +124,14 @@ fn after_line(run: Run, record: Record, chart: &mut [u8]) -> Run
 }
 
 // Reads a line and writes it, with the reply if it is a command.
-fn turn(run: Run, chart: &mut [u8], payloads: &mut [u8], tables: &mut [u8], log: &mut [u8]) -> Run
+fn turn(
+    run: Run,
+    chart: &mut [u8],
+    payloads: &mut [u8],
+    tables: &mut [u8],
+    guarded: &mut [u8],
+    log: &mut [u8],
+) -> Run
     requires { ⌜ Good (run .kernel) ⌝ }
     requires { ⌜ Counts (run .written) (now chart) ⌝ }
     ensures { λ r. ⌜ Good (r .kernel) ⌝ }
@@ -141,14 +151,20 @@ fn turn(run: Run, chart: &mut [u8], payloads: &mut [u8], tables: &mut [u8], log:
         return run;
     }
     if is_command(record) {
-        return answer_command(run, record, line, chart, payloads, tables, log);
+        return answer_command(run, record, line, chart, payloads, tables, guarded, log);
     }
     text::write(line);
     after_line(run, record, chart)
 }
 
 // A proved loop has to end, and nothing says that the input does: so the turns are counted down.
-fn play_on(chart: &mut [u8], payloads: &mut [u8], tables: &mut [u8], log: &mut [u8]) -> bool {
+fn play_on(
+    chart: &mut [u8],
+    payloads: &mut [u8],
+    tables: &mut [u8],
+    guarded: &mut [u8],
+    log: &mut [u8],
+) -> bool {
     let mut run = Run {
         kernel: kernel::fresh(),
         written: 0,
@@ -157,7 +173,7 @@ fn play_on(chart: &mut [u8], payloads: &mut [u8], tables: &mut [u8], log: &mut [
     };
     let mut turns = u64::MAX;
     while turns > 0 && run.is_open {
-        run = turn(run, chart, payloads, tables, log);
+        run = turn(run, chart, payloads, tables, guarded, log);
         turns -= 1;
     }
     run.is_followed
@@ -168,8 +184,15 @@ fn play_trace() -> bool {
     let mut chart = [0u8; CHART_ROOM];
     let mut payloads = [0u8; PAYLOAD_AREA];
     let mut tables = [0u8; TABLE_AREA];
+    let mut guarded = [0u8; GUARDED_AREA];
     let mut log = [0u8; LOG_AREA];
-    play_on(&mut chart, &mut payloads, &mut tables, &mut log)
+    play_on(
+        &mut chart,
+        &mut payloads,
+        &mut tables,
+        &mut guarded,
+        &mut log,
+    )
 }
 
 fn main() {

@@ -1,10 +1,15 @@
 -- What is read of the event that comes, and what a run needs and makes of the arrays that are lent to it.
 use mathlib.Core.List.{List}
 use mathlib.Core.Path.{_≡_}
-use Prim.Native.Nat.{ℕ, _-_, _<_, _≤_}
+use Prim.Native.Nat.{ℕ, _+_, _-_, _<_, _≤_}
 use lib.ListN.{length, getD, set}
+use Rattle.chart.specs.Flags.{Flags}
+use Rattle.chart.specs.Flat.{answerOf, flagAt, rowAt, rowOf}
 use Rattle.chart.specs.Numbers.{rowSize}
-use Rattle.machine.specs.Numbers.{objects, signalPlaces, tableBytes, mostSteps, logBytes}
+use Rattle.chart.specs.declared.Reading.{Reading}
+use Rattle.chart.specs.declared.Reading.the-variants.{Taken, Ignored, Unsound}
+use Rattle.machine.specs.Numbers.{objects, signalPlaces, tableBytes, guardedBytes, mostSteps, logBytes}
+use Rattle.machine.specs.Reply.{BothTables}
 use Rattle.machine.specs.Run.{Run, FitRun, runFrom}
 use Rattle.machine.specs.State.{State}
 use Rattle.machine.specs.Steps.{signalOf, firstByte, generationIn}
@@ -24,12 +29,21 @@ pub record Looks (s : State) (h : Hand) (l : Coming) : Type 0 where
   pub first : l .first ≡ firstByte h
   pub generation : l .generation ≡ generationIn s h
 
--- What an answer needs: an object, a signal, and a row.
-pub record Runs (p : ℕ) (l : Coming) (row : List ℕ) : Type 0 where
+-- What an answer needs: an object and a signal.
+pub record Runs (p : ℕ) (l : Coming) : Type 0 where
   pub object : p < 256
   pub signal : l .signal < signalPlaces
-  pub long : length row ≡ rowSize
-  pub outcome : getD row 1 0 ≤ 2
+
+-- What was found lies in the table t: a row that is taken is that of an answer.
+pub record Placed (t : List ℕ) (at : ℕ) : Type 0 where
+  pub within : at + rowSize ≤ length t
+  pub outcome : getD (rowAt t at) 1 0 ≤ 2
+  pub whole : rowOf (flagAt (rowAt t at)) (answerOf (rowAt t at)) ≡ rowAt t at
+
+unfoldable pub Lies : List ℕ → Reading → Type 0
+Lies t (Taken at) = Placed t at
+Lies t Ignored = Unit {0}
+Lies t Unsound = Unit {0}
 
 -- After n steps: the arrays have their lengths, and nothing is let go more often than there were steps.
 pub record Sized (pl hs cs rs ts lg : List ℕ) (n : ℕ) : Type 0 where
@@ -59,21 +73,22 @@ abbrev pub Above : ℕ → List (List ℕ) → Type 0
 Above p bs = (q : ℕ) → p ≤ q → length (boxAt bs q) ≡ 0
 
 -- What the steps of object p, counted from 1, begin with, as step n of a run within a budget: no higher object has mail.
-pub record Ready (gens signals seats tables pl hs cs rs ts lg : List ℕ) (p budget n : ℕ) : Type 0 where
+pub record Ready (gens signals seats : List ℕ) (flags : ℕ → Flags) (tables : BothTables) (pl hs cs rs ts lg : List ℕ) (p budget n : ℕ) : Type 0 where
   pub sized : Sized pl hs cs rs ts lg n
-  pub long : length tables ≡ tableBytes
+  pub long : length (tables .plain) ≡ tableBytes
+  pub long-guarded : length (tables .guarded) ≡ guardedBytes
   pub most : budget ≤ mostSteps
   pub within : n ≤ budget
   pub low : 0 < p
   pub high : p ≤ objects
   pub above : Above p (boxes pl hs cs)
-  pub fit : FitRun gens signals seats tables (runAt pl hs cs rs ts lg n)
+  pub fit : FitRun gens signals seats flags tables (runAt pl hs cs rs ts lg n)
 
 -- The steps of object p, counted from 1, from the run x to the run y, within a budget: what is left to run from y is what was left from x.
 -- If the object still has mail, nothing is left.
-pub record Stretch (gens signals seats tables : List ℕ) (p budget : ℕ) (x y : Run) : Type 0 where
+pub record Stretch (gens signals seats : List ℕ) (flags : ℕ → Flags) (tables : BothTables) (p budget : ℕ) (x y : Run) : Type 0 where
   pub within : y .steps ≤ budget
-  pub fit : FitRun gens signals seats tables y
+  pub fit : FitRun gens signals seats flags tables y
   pub above : Above p (y .boxes)
-  pub same : runFrom gens signals seats tables (budget - y .steps) y ≡ runFrom gens signals seats tables (budget - x .steps) x
-  pub ended : (length (boxAt (y .boxes) (p - 1)) ≡ 0 → ⊥) → runFrom gens signals seats tables (budget - y .steps) y ≡ y
+  pub same : runFrom gens signals seats flags tables (budget - y .steps) y ≡ runFrom gens signals seats flags tables (budget - x .steps) x
+  pub ended : (length (boxAt (y .boxes) (p - 1)) ≡ 0 → ⊥) → runFrom gens signals seats flags tables (budget - y .steps) y ≡ y

@@ -6,15 +6,18 @@ ghost use mathlib.Core.Path.{_≡_};
 ghost use Prim.Native.Nat.{ℕ, _-_, _<_, _≤_};
 ghost use lib.Dec.{eqb, ltb};
 ghost use lib.ListN.{getD, length, set};
+ghost use Rattle.chart.specs.Flags.{inWords};
+ghost use Rattle.chart.specs.Held.{answerAt, isSound};
 ghost use Rattle.machine.specs.Inv.{IsEvent};
-ghost use Rattle.machine.specs.Numbers.{tableBytes, mostSteps};
-ghost use Rattle.machine.specs.Reply.{replyOf, ran};
+ghost use Rattle.machine.specs.Numbers.{tableBytes, guardedBytes, mostSteps};
+ghost use Rattle.machine.specs.Reply.{both, replyOf, ran};
 ghost use Rattle.machine.specs.Run.{FitRun, blockOf, runFrom};
 ghost use Rattle.machine.specs.State.{State};
 ghost use Rattle.mail.specs.Box.{highest, tookFirst};
 ghost use Rattle.mail.specs.Entry.{handOf};
 ghost use Rattle.mail.specs.View.{Holds, Mail, boxes};
-ghost use Rattle.drain.specs.Lent.{Generations, Looks, Ready, Runs, Sized, Stretch, runAt};
+ghost use Rattle.drain.specs.Lent.{Generations, Lies, Looks, Ready, Runs, Sized, Stretch, runAt};
+use chart::Reading;
 use ground::copy;
 use ground::least;
 use ground::wide;
@@ -22,10 +25,12 @@ use mail::Hand;
 use numbers::ALL_PLACES;
 use numbers::BLOCKS;
 use numbers::FIRST_BYTES;
+use numbers::FLAGS;
 use numbers::OBJECTS;
 use numbers::REPLY_BYTES;
 use numbers::ROW_BYTES;
-use numbers::SLOT_BYTES;
+use slots::edition_of;
+use slots::table_of;
 
 // What NEXT answers for a timer: 128 + t, then 0.
 const TIMER: u8 = 128;
@@ -83,12 +88,45 @@ pub fn look(signals: &[u8; BLOCKS], gens: &[u32; BLOCKS], e: u16) -> Coming
     }
 }
 
-// NEXT's answer: object p takes a row.
-pub fn answer(p: usize, l: Coming, row: &[u8]) -> [u8; REPLY_BYTES]
-    requires { ⌜ Runs p l (now row) ⌝ }
-    ensures { λ r. ⌜ r ≡ replyOf (ran p (l .signal) (l .first) (l .generation) (now (row .entry))) ⌝ }
+// Whether each row that was read is sound.
+pub fn is_sound(found: Reading) -> bool
+    ensures { λ r. ⌜ r ≡ isSound found ⌝ }
 {
-    reply::ran(p as u8, l.signal, l.first, l.generation, row)
+    match found {
+        Reading::Taken(_) => true,
+        Reading::Ignored => true,
+        Reading::Unsound => false,
+    }
+}
+
+// The state of rest after what was found in a table: that of the row that is taken, else the one before.
+pub fn next_rest(table: &[u8], found: Reading, rest: u8) -> u8
+    requires { ⌜ Lies (now table) found ⌝ }
+    ensures { λ r. ⌜ r ≡ answerAt (now (table .entry)) rest found .next ⌝ }
+{
+    match found {
+        Reading::Taken(at) => table[at],
+        Reading::Ignored => rest,
+        Reading::Unsound => rest,
+    }
+}
+
+// NEXT's answer, of object p: what was found in a table for the event that comes.
+pub fn answer(p: usize, l: Coming, table: &[u8], found: Reading) -> [u8; REPLY_BYTES]
+    requires { ⌜ Runs p l × Lies (now table) found ⌝ }
+    ensures { λ r. ⌜ ((rest : ℕ) → r ≡ replyOf (ran p (l .signal) (l .first) (l .generation) (answerAt (now (table .entry)) rest found))) ⌝ }
+{
+    match found {
+        Reading::Taken(at) => reply::ran(
+            p as u8,
+            l.signal,
+            l.first,
+            l.generation,
+            &table[at..at + ROW_BYTES],
+        ),
+        Reading::Ignored => reply::ignored(p as u8, l.signal, l.first, l.generation),
+        Reading::Unsound => reply::ignored(p as u8, l.signal, l.first, l.generation),
+    }
 }
 
 // Object q has taken so many of its entries, and rests in a state.
@@ -119,36 +157,39 @@ fn run_object(
     seats: &[u8; OBJECTS],
     signals: &[u8; BLOCKS],
     gens: &[u32; BLOCKS],
+    flags: &[u64; FLAGS],
     times: &mut [u8; FIRST_BYTES],
     tables: &[u8],
+    guarded: &[u8],
     log: &mut [u8],
     budget: usize,
     p: usize,
     from: usize,
 ) -> usize
-    requires { ⌜ Ready (now gens) (now signals) (now seats) (now tables) (now places) (now heads) (now counts) (now rests) (now times) (now log) p budget from ⌝ }
+    requires { ⌜ Ready (now gens) (now signals) (now seats) (inWords (now flags)) (both (now tables) (now guarded)) (now places) (now heads) (now counts) (now rests) (now times) (now log) p budget from ⌝ }
     requires { ⌜ 0 < getD (now counts) (p - 1) 0 ⌝ }
-    ensures { λ r. ⌜ Stretch (now (gens .entry)) (now (signals .entry)) (now (seats .entry)) (now (tables .entry)) p budget
+    ensures { λ r. ⌜ Stretch (now (gens .entry)) (now (signals .entry)) (now (seats .entry)) (inWords (now (flags .entry))) (both (now (tables .entry)) (now (guarded .entry))) p budget
         (runAt (now (places .entry)) (now (heads .entry)) (now (counts .entry)) (now (rests .entry)) (now (times .entry)) (now (log .entry)) from)
         (runAt (now (places .entry)) (now (heads .exit)) (now (counts .exit)) (now (rests .exit)) (now (times .exit)) (now (log .exit)) r) ⌝ }
     ensures { λ r. ⌜ Sized (now (places .entry)) (now (heads .exit)) (now (counts .exit)) (now (rests .exit)) (now (times .exit)) (now (log .exit)) r ⌝ }
 {
     let q = p - 1;
-    let slot = &tables[SLOT_BYTES * wide(seats[q])..];
+    let seat = wide(seats[q]);
+    let edition = edition_of(seat);
+    let table = table_of(tables, guarded, seat);
     let end = least(from + wide(counts[q]), budget);
     let mut rest = rests[q];
     let mut n = from;
     while n < end {
         let e = mail::entry(places, heads, counts, q, n - from);
         let l = look(signals, gens, e);
-        let at = chart::row_place(rest, l.signal);
-        let row = &slot[at..at + ROW_BYTES];
-        if !chart::sound(row) {
+        let found = chart::find_row(edition, table, rest, l.signal, flags, p);
+        if !is_sound(found) {
             settle(heads, counts, rests, q, n - from, rest);
             return n;
         }
-        rest = row[0];
-        let line = answer(p, l, row);
+        rest = next_rest(table, found, rest);
+        let line = answer(p, l, table, found);
         copy(
             &mut log[REPLY_BYTES * n..REPLY_BYTES * n + REPLY_BYTES],
             &line,
@@ -170,15 +211,17 @@ fn turn(
     seats: &[u8; OBJECTS],
     signals: &[u8; BLOCKS],
     gens: &[u32; BLOCKS],
+    flags: &[u64; FLAGS],
     times: &mut [u8; FIRST_BYTES],
     tables: &[u8],
+    guarded: &[u8],
     log: &mut [u8],
     budget: usize,
     p: usize,
     from: usize,
 ) -> usize
-    requires { ⌜ Ready (now gens) (now signals) (now seats) (now tables) (now places) (now heads) (now counts) (now rests) (now times) (now log) p budget from ⌝ }
-    ensures { λ r. ⌜ Stretch (now (gens .entry)) (now (signals .entry)) (now (seats .entry)) (now (tables .entry)) p budget
+    requires { ⌜ Ready (now gens) (now signals) (now seats) (inWords (now flags)) (both (now tables) (now guarded)) (now places) (now heads) (now counts) (now rests) (now times) (now log) p budget from ⌝ }
+    ensures { λ r. ⌜ Stretch (now (gens .entry)) (now (signals .entry)) (now (seats .entry)) (inWords (now (flags .entry))) (both (now (tables .entry)) (now (guarded .entry))) p budget
         (runAt (now (places .entry)) (now (heads .entry)) (now (counts .entry)) (now (rests .entry)) (now (times .entry)) (now (log .entry)) from)
         (runAt (now (places .entry)) (now (heads .exit)) (now (counts .exit)) (now (rests .exit)) (now (times .exit)) (now (log .exit)) r) ⌝ }
     ensures { λ r. ⌜ Sized (now (places .entry)) (now (heads .exit)) (now (counts .exit)) (now (rests .exit)) (now (times .exit)) (now (log .exit)) r ⌝ }
@@ -194,8 +237,10 @@ fn turn(
         seats,
         signals,
         gens,
+        flags,
         times,
         tables,
+        guarded,
         log,
         budget,
         p,
@@ -212,16 +257,18 @@ pub fn run(
     seats: &[u8; OBJECTS],
     signals: &[u8; BLOCKS],
     gens: &[u32; BLOCKS],
+    flags: &[u64; FLAGS],
     times: &mut [u8; FIRST_BYTES],
     tables: &[u8],
+    guarded: &[u8],
     log: &mut [u8],
     budget: usize,
 ) -> usize
-    requires { ⌜ Sized (now places) (now heads) (now counts) (now rests) (now times) (now log) 0 × (length (now tables) ≡ tableBytes) × (budget ≤ mostSteps) ⌝ }
-    requires { ⌜ FitRun (now gens) (now signals) (now seats) (now tables) (runAt (now places) (now heads) (now counts) (now rests) (now times) (now log) 0) ⌝ }
+    requires { ⌜ Sized (now places) (now heads) (now counts) (now rests) (now times) (now log) 0 × (length (now tables) ≡ tableBytes) × (length (now guarded) ≡ guardedBytes) × (budget ≤ mostSteps) ⌝ }
+    requires { ⌜ FitRun (now gens) (now signals) (now seats) (inWords (now flags)) (both (now tables) (now guarded)) (runAt (now places) (now heads) (now counts) (now rests) (now times) (now log) 0) ⌝ }
     ensures { λ r. ⌜ Sized (now (places .entry)) (now (heads .exit)) (now (counts .exit)) (now (rests .exit)) (now (times .exit)) (now (log .exit)) r
         × (runAt (now (places .entry)) (now (heads .exit)) (now (counts .exit)) (now (rests .exit)) (now (times .exit)) (now (log .exit)) r
-        ≡ runFrom (now (gens .entry)) (now (signals .entry)) (now (seats .entry)) (now (tables .entry)) budget
+        ≡ runFrom (now (gens .entry)) (now (signals .entry)) (now (seats .entry)) (inWords (now (flags .entry))) (both (now (tables .entry)) (now (guarded .entry))) budget
         (runAt (now (places .entry)) (now (heads .entry)) (now (counts .entry)) (now (rests .entry)) (now (times .entry)) (now (log .entry)) 0)) ⌝ }
 {
     let mut n = 0;
@@ -235,8 +282,10 @@ pub fn run(
             seats,
             signals,
             gens,
+            flags,
             times,
             tables,
+            guarded,
             log,
             budget,
             p,

@@ -6,16 +6,21 @@ ghost use lib.ListN.{length};
 ghost use Rattle.chart.specs.Chart.{formOk, formsOk, key, lengthOk, parentOk, path, rowOk, rowsOk, stateOk, treeOk};
 ghost use Rattle.chart.specs.Held.{kindAt, targetOk, within};
 ghost use Rattle.chart.specs.Numbers.{levels, mostStates};
+ghost use Rattle.chart.specs.declared.read.Edition.the-variants.{Plain};
+use chart::read::Edition;
+use chart::read::FLAG;
 use chart::read::INITIAL;
 use chart::read::INITIAL_ACTION;
 use chart::read::LEVELS;
-use chart::read::MOST_STATES;
 use chart::read::PARENT;
 use chart::read::contains;
 use chart::read::field;
 use chart::read::is_among;
 use chart::read::is_signal;
+use chart::read::most_flag;
+use chart::read::most_states;
 use chart::read::parent_of;
+use chart::read::row_filler;
 use chart::read::state_field;
 use ground::blank;
 use ground::wide;
@@ -49,9 +54,9 @@ fn kind_at(n: usize, i: usize) -> u8
 }
 
 // A record of kind k: its kind and its filler bytes.
-fn form_ok(part: &[u8], k: u8) -> bool
+fn form_ok(edition: Edition, part: &[u8], k: u8) -> bool
     requires { ⌜ 8 ≤ length (now part) ⌝ }
-    ensures { λ r. ⌜ r ≡ formOk k (now (part .entry)) ⌝ }
+    ensures { λ r. ⌜ r ≡ formOk edition k (now (part .entry)) ⌝ }
 {
     if part[0] != k {
         return false;
@@ -59,18 +64,21 @@ fn form_ok(part: &[u8], k: u8) -> bool
     if k == 3 {
         return blank(part, 3, 8);
     }
-    blank(part, 6, 8)
+    if k == 1 {
+        return blank(part, 6, 8);
+    }
+    blank(part, row_filler(edition), 8)
 }
 
 // Class 2: the records' kinds and filler bytes, and the number of states.
-pub fn forms_ok(chart: &[u8], n: usize) -> bool
-    ensures { λ r. ⌜ r ≡ formsOk n (now (chart .entry)) ⌝ }
+pub fn forms_ok(edition: Edition, chart: &[u8], n: usize) -> bool
+    ensures { λ r. ⌜ r ≡ formsOk edition n (now (chart .entry)) ⌝ }
 {
     let e = chart.len() / 8;
     let mut i: usize = 0;
     while i < e {
         let at = 8 * i;
-        if !form_ok(&chart[at..], kind_at(n, i)) {
+        if !form_ok(edition, &chart[at..], kind_at(n, i)) {
             return false;
         }
         i += 1;
@@ -78,7 +86,7 @@ pub fn forms_ok(chart: &[u8], n: usize) -> bool
     if n < 1 {
         return false;
     }
-    n <= MOST_STATES
+    n <= most_states(edition)
 }
 
 // Whether p is lower than s and, if it is a state, has an initial target.
@@ -136,7 +144,7 @@ fn state_ok(chart: &[u8], n: usize, s: u8, part: &[u8]) -> bool
 
 // Class 3: the top initial transition and the states.
 pub fn tree_ok(chart: &[u8], n: usize) -> bool
-    requires { ⌜ (8 * n + 8 ≤ length (now chart)) × (n ≤ mostStates) ⌝ }
+    requires { ⌜ (8 * n + 8 ≤ length (now chart)) × (n ≤ mostStates Plain) ⌝ }
     ensures { λ r. ⌜ r ≡ treeOk n (now (chart .entry)) ⌝ }
 {
     if !is_among(n, field(chart, 0, 1)) {
@@ -176,9 +184,9 @@ fn target_ok(n: usize, kind: u8, t: u8) -> bool
 }
 
 // A row, behind one with the key before.
-fn row_ok(n: usize, before: usize, part: &[u8]) -> bool
+fn row_ok(edition: Edition, n: usize, before: usize, part: &[u8]) -> bool
     requires { ⌜ 8 ≤ length (now part) ⌝ }
-    ensures { λ r. ⌜ r ≡ rowOk n before (now (part .entry)) ⌝ }
+    ensures { λ r. ⌜ r ≡ rowOk edition n before (now (part .entry)) ⌝ }
 {
     if !is_among(n, part[1]) {
         return false;
@@ -189,20 +197,23 @@ fn row_ok(n: usize, before: usize, part: &[u8]) -> bool
     if !target_ok(n, part[3], part[4]) {
         return false;
     }
+    if most_flag(edition) < part[FLAG] {
+        return false;
+    }
     before < key_of(part)
 }
 
 // Class 4: the rows.
-pub fn rows_ok(chart: &[u8], n: usize) -> bool
-    requires { ⌜ n ≤ mostStates ⌝ }
-    ensures { λ r. ⌜ r ≡ rowsOk n (now (chart .entry)) ⌝ }
+pub fn rows_ok(edition: Edition, chart: &[u8], n: usize) -> bool
+    requires { ⌜ n ≤ mostStates Plain ⌝ }
+    ensures { λ r. ⌜ r ≡ rowsOk edition n (now (chart .entry)) ⌝ }
 {
     let e = chart.len() / 8;
     let mut i: usize = n + 1;
     let mut before: usize = 0;
     while i < e {
         let at = 8 * i;
-        if !row_ok(n, before, &chart[at..]) {
+        if !row_ok(edition, n, before, &chart[at..]) {
             return false;
         }
         before = key_of(&chart[at..]);

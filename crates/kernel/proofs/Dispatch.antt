@@ -20,9 +20,9 @@ use Rattle.state.specs.View.{Good, answered, areas, stateOf}
 use Rattle.state.specs.declared.Answered.{Answered}
 use Rattle.state.specs.declared.Kernel.{Kernel}
 
--- Commands have the numbers 1 to 21.
+-- Commands have the numbers 1 to 22.
 abbrev last : ℕ
-last = 21
+last = 22
 
 -- n is none of 1 to m
 abbrev NoneTo : ℕ → ℕ → Type 0
@@ -58,6 +58,7 @@ unknown-form n r d s z h =
       off 19 refl,
       off 20 refl,
       off 21 refl,
+      off 22 refl,
     )
     refl
   where
@@ -77,26 +78,30 @@ pub no-record : (k : Kernel) (r d : List ℕ) (z : Areas) (reply : List ℕ) →
 unfolding answered answerTo choose
 no-record k r d z reply good ne form = promise k r d z (record { kernel = k; reply = reply }) z good (rw (ne-eqb (length r) recordBytes ne, form) refl)
 
--- Behind the arms, where the areas p, t and l are p′, t′ and l′: each is as long as it was, and the promise holds.
-pub record Settled (k : Kernel) (r d p t l : List ℕ) (a : Answered) (p′ t′ l′ : List ℕ) : Type 0 where
+-- Behind the arms, where the areas p, t, g and l are p′, t′, g′ and l′: each is as long as it was, and the promise holds.
+pub record Settled (k : Kernel) (r d p t g l : List ℕ) (a : Answered) (p′ t′ g′ l′ : List ℕ) : Type 0 where
   pub payloads : length p′ ≡ length p
   pub tables : length t′ ≡ length t
+  pub guarded : length g′ ≡ length g
   pub log : length l′ ≡ length l
-  pub promised : Promised k r d (areas p t l) a (areas p′ t′ l′)
+  pub promised : Promised k r d (areas p t g l) a (areas p′ t′ g′ l′)
 
--- From what an arm left, the answer b and the areas x, y and z, to what is known behind the arms.
-module _ {k : Kernel} {r d p t l : List ℕ} (ready : Good k × (length r ≡ recordBytes)) {a b : Answered} {p′ t′ l′ : List ℕ} where
-  pub known : (n : ℕ) → arg r 0 ≡ n → {x y z : List ℕ} → answered b (areas x y z) ≡ command n r d (stateOf k) (areas p t l)
-      → length x ≡ length p → length y ≡ length t → length z ≡ length l → p′ ≡ x → t′ ≡ y → l′ ≡ z → a ≡ b → Settled k r d p t l a p′ t′ l′
+-- From what an arm left, the answer b and the areas w, x, y and z, to what is known behind the arms.
+module _ {k : Kernel} {r d p t g l : List ℕ} (ready : Good k × (length r ≡ recordBytes)) {a b : Answered} {p′ t′ g′ l′ : List ℕ} where
+  pub known : (n : ℕ) → arg r 0 ≡ n → {w x y z : List ℕ} → answered b (areas w x y z) ≡ command n r d (stateOf k) (areas p t g l)
+      → length w ≡ length p → length x ≡ length t → length y ≡ length g → length z ≡ length l
+      → p′ ≡ w → t′ ≡ x → g′ ≡ y → l′ ≡ z → a ≡ b → Settled k r d p t g l a p′ t′ g′ l′
   unfolding answerTo choose
-  known n is {x} {y} {z} e px ty lz p-is t-is l-is a-is =
-      let kept = promise k r d (areas p t l) b (areas x y z) (ready .0) (rw (eq-eqb (length r) recordBytes (ready .1), is) e) in
-      rw (p-is, t-is, l-is, a-is) record { payloads = px; tables = ty; log = lz; promised = kept }
+  known n is {w} {x} {y} {z} e pw tx gy lz p-is t-is g-is l-is a-is =
+      let kept = promise k r d (areas p t g l) b (areas w x y z) (ready .0) (rw (eq-eqb (length r) recordBytes (ready .1), is) e) in
+      rw (p-is, t-is, g-is, l-is, a-is) record { payloads = pw; tables = tx; guarded = gy; log = lz; promised = kept }
 
   -- the areas as they were
-  pub unchanged : (n : ℕ) → arg r 0 ≡ n → answered b (areas p t l) ≡ command n r d (stateOf k) (areas p t l) → p′ ≡ p → t′ ≡ t → l′ ≡ l → a ≡ b → Settled k r d p t l a p′ t′ l′
-  unchanged n is e = known n is e refl refl refl
+  pub unchanged : (n : ℕ) → arg r 0 ≡ n → answered b (areas p t g l) ≡ command n r d (stateOf k) (areas p t g l) →
+      p′ ≡ p → t′ ≡ t → g′ ≡ g → l′ ≡ l → a ≡ b → Settled k r d p t g l a p′ t′ g′ l′
+  unchanged n is e = known n is e refl refl refl refl
 
-  pub unknown : NoneTo last (arg r 0) → (b .kernel ≡ k) × (b .reply ≡ replyOf (no FORM)) → p′ ≡ p → t′ ≡ t → l′ ≡ l → a ≡ b → Settled k r d p t l a p′ t′ l′
+  pub unknown : NoneTo last (arg r 0) → (b .kernel ≡ k) × (b .reply ≡ replyOf (no FORM)) →
+      p′ ≡ p → t′ ≡ t → g′ ≡ g → l′ ≡ l → a ≡ b → Settled k r d p t g l a p′ t′ g′ l′
   unfolding answered
-  unknown none form = unchanged (arg r 0) refl (rw (unknown-form (arg r 0) r d (stateOf k) (areas p t l) none, form .0, form .1) refl)
+  unknown none form = unchanged (arg r 0) refl (rw (unknown-form (arg r 0) r d (stateOf k) (areas p t g l) none, form .0, form .1) refl)

@@ -53,14 +53,15 @@ pub fn answer_to(
     chart: &[u8],
     payloads: &mut [u8],
     tables: &mut [u8],
+    guarded: &mut [u8],
     log: &mut [u8],
     reply: &mut [u8; REPLY_BYTES],
 ) -> Kernel
     requires { ⌜ Good k ⌝ }
     ensures { λ r. ⌜ Good r
-        × (told r (now (reply .exit)) (areas (now (payloads .exit)) (now (tables .exit)) (now (log .exit)))
+        × (told r (now (reply .exit)) (areas (now (payloads .exit)) (now (tables .exit)) (now (guarded .exit)) (now (log .exit)))
         ≡ answerTo (stateOf k) (now («record» .entry)) (now (chart .entry))
-        (areas (now (payloads .entry)) (now (tables .entry)) (now (log .entry)))) ⌝ }
+        (areas (now (payloads .entry)) (now (tables .entry)) (now (guarded .entry)) (now (log .entry)))) ⌝ }
 {
     if record.len() != RECORD_BYTES {
         *reply = reply::refused(FORM);
@@ -68,8 +69,8 @@ pub fn answer_to(
     }
     let n = record[0];
     let a = match n {
-        command::LOAD => charts::records::load_command(k, record, chart, tables),
-        command::START => charts::records::start_command(k, record, tables),
+        command::LOAD => charts::records::load_command(k, record, chart, tables, guarded),
+        command::START => charts::records::start_command(k, record, tables, guarded),
         command::NEW => payloads::records::new_command(k, record, payloads),
         command::POST => events::records::post_command(k, record),
         command::POSTFRONT => events::records::post_front_command(k, record),
@@ -79,16 +80,17 @@ pub fn answer_to(
         command::HOLD => events::records::hold_command(k, record),
         command::RELEASE => events::records::release_command(k, record),
         command::DROP => events::records::drop_event_command(k, record),
-        command::NEXT => steps::records::next_command(k, record, tables),
+        command::NEXT => steps::records::next_command(k, record, tables, guarded),
         command::END => steps::records::end_command(k, record),
         command::ARM => clocks::records::arm_command(k, record),
         command::DISARM => clocks::records::disarm_command(k, record),
         command::TICK => clocks::records::tick_command(k, record),
         command::READ => payloads::records::read_command(k, record, payloads),
-        command::DRAIN => steps::records::drain_command(k, record, tables, log),
+        command::DRAIN => steps::records::drain_command(k, record, tables, guarded, log),
         command::DEFER => aside::records::defer_command(k, record),
         command::RECALL => aside::records::recall_command(k, record),
         command::FLUSH => aside::records::flush_command(k, record),
+        command::FLAG => charts::records::flag_command(k, record),
         _ => state::refuse(k, FORM),
     };
     let bytes = a.reply;
@@ -103,15 +105,25 @@ pub fn command(
     chart: &[u8],
     payloads: &mut [u8],
     tables: &mut [u8],
+    guarded: &mut [u8],
     log: &mut [u8],
 ) -> Answered
     requires { ⌜ Good k ⌝ }
     ensures { λ r. ⌜ Good (r .kernel) ⌝ }
-    ensures { λ r. ⌜ answered r (areas (now (payloads .exit)) (now (tables .exit)) (now (log .exit)))
+    ensures { λ r. ⌜ answered r (areas (now (payloads .exit)) (now (tables .exit)) (now (guarded .exit)) (now (log .exit)))
         ≡ answerTo (stateOf k) (now («record» .entry)) (now (chart .entry))
-        (areas (now (payloads .entry)) (now (tables .entry)) (now (log .entry))) ⌝ }
+        (areas (now (payloads .entry)) (now (tables .entry)) (now (guarded .entry)) (now (log .entry))) ⌝ }
 {
     let mut reply = [0u8; REPLY_BYTES];
-    let kernel = answer_to(k, record, chart, payloads, tables, log, &mut reply);
+    let kernel = answer_to(
+        k,
+        record,
+        chart,
+        payloads,
+        tables,
+        guarded,
+        log,
+        &mut reply,
+    );
     Answered { kernel, reply }
 }

@@ -1,19 +1,18 @@
-// Where things stand in the areas that are lent: blocks in the payload area, slots and rows in the tables.
+// What is written to the areas that are lent: a payload at the place of its block, the table of a chart in its slot.
 ghost use mathlib.Core.Path.{_≡_};
-ghost use Prim.Native.Nat.{_*_, _<_, _≤_};
+ghost use Prim.Native.Nat.{_<_, _≤_};
 ghost use lib.ListN.{length};
 ghost use Rattle.chart.specs.Chart.{classOf};
-ghost use Rattle.chart.specs.Flat.{rowAt, slotBytes};
-ghost use Rattle.chart.specs.Numbers.{slotSize};
+ghost use Rattle.chart.specs.Flat.{slotBytes};
 ghost use Rattle.ground.specs.Bytes.{padded};
-ghost use Rattle.machine.specs.Charts.{startRow};
-ghost use Rattle.machine.specs.Numbers.{capacity, placeOf, blocks, mostBytes, payloadBytes, slots, tableBytes};
-ghost use Rattle.machine.specs.Reply.{over};
+ghost use Rattle.machine.specs.Charts.{filled};
+ghost use Rattle.machine.specs.Numbers.{capacity, placeOf, blocks, mostBytes, editionOf, guardedBytes, guardedSlot, payloadBytes, slots, tableBytes};
+ghost use Rattle.machine.specs.Reply.{both, over};
+use numbers::GUARDED_SLOT;
 use numbers::LARGE;
 use numbers::LARGE_BYTES;
 use numbers::MIDDLE;
 use numbers::MIDDLE_BYTES;
-use numbers::ROW_BYTES;
 use numbers::SLOT_BYTES;
 use numbers::SMALL_BYTES;
 
@@ -59,37 +58,17 @@ pub fn put_payload(b: usize, payload: &[u8], payloads: &mut [u8])
     ground::fill(&mut payloads[at..e], payload);
 }
 
-// Slot q is filled from a good chart; a refused one leaves it. The class of the chart's fault, or 0.
-pub fn fill_slot(q: usize, chart: &[u8], tables: &mut [u8]) -> u32
-    requires { ⌜ (q < slots) × (length (now tables) ≡ tableBytes) ⌝ }
-    ensures { λ r. ⌜ r ≡ classOf (now (chart .entry)) ⌝ }
-    ensures { λ r. ⌜ (r ≡ 0 → now (tables .exit) ≡ over (now (tables .entry)) (slotSize * q) (slotBytes (now (chart .entry)))) ⌝ }
-    ensures { λ r. ⌜ ((r ≡ 0 → ⊥) → now (tables .exit) ≡ now (tables .entry)) ⌝ }
+// Slot q is filled from a chart that is good in its edition; a refused one leaves it. The class of the chart's fault, or 0.
+pub fn fill_slot(q: usize, chart: &[u8], tables: &mut [u8], guarded: &mut [u8]) -> u32
+    requires { ⌜ (q < slots) × (length (now tables) ≡ tableBytes) × (q ≡ guardedSlot → length (now guarded) ≡ guardedBytes) ⌝ }
+    ensures { λ r. ⌜ r ≡ classOf (editionOf q) (now (chart .entry)) ⌝ }
+    ensures { λ r. ⌜ (r ≡ 0 → both (now (tables .exit)) (now (guarded .exit))
+        ≡ filled q (slotBytes (editionOf q) (now (chart .entry))) (both (now (tables .entry)) (now (guarded .entry)))) ⌝ }
+    ensures { λ r. ⌜ ((r ≡ 0 → ⊥) → both (now (tables .exit)) (now (guarded .exit)) ≡ both (now (tables .entry)) (now (guarded .entry))) ⌝ }
 {
+    if q == GUARDED_SLOT {
+        return flattener::chart_flatten_guarded(chart, guarded);
+    }
     let at = SLOT_BYTES * q;
     flattener::chart_flatten(chart, &mut tables[at..at + SLOT_BYTES])
-}
-
-// The row at a place of the tables, as much of it as there is.
-fn row_at<'a>(tables: &'a [u8], at: usize) -> &'a [u8]
-    ensures { λ r. ⌜ now r ≡ rowAt (now (tables .entry)) at ⌝ }
-{
-    let n = tables.len();
-    if n < at {
-        return &tables[0..0];
-    }
-    if n - at < ROW_BYTES {
-        return &tables[at..n];
-    }
-    &tables[at..at + ROW_BYTES]
-}
-
-// The start row of slot q, as much of it as there is.
-pub fn start_row<'a>(tables: &'a [u8], q: usize) -> &'a [u8]
-    ensures { λ r. ⌜ now r ≡ startRow (now (tables .entry)) q ⌝ }
-{
-    if tables.len() / SLOT_BYTES < q {
-        return &tables[0..0];
-    }
-    row_at(tables, SLOT_BYTES * q)
 }

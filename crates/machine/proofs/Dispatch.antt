@@ -6,7 +6,7 @@ use Rattle.machine.specs.Aside
 use Rattle.machine.specs.Charts
 use Rattle.machine.specs.Clocks
 use Rattle.machine.specs.Events
-use Rattle.machine.specs.Machine.{choose, command, answerTo}
+use Rattle.machine.specs.Machine.{arg, choose, command, answerTo}
 use Rattle.machine.specs.Reply.{FORM, no, Areas, Answer, answer}
 use Rattle.machine.specs.State.{State}
 use Rattle.machine.specs.Steps
@@ -17,9 +17,10 @@ module _ (P : Answer → Type 0) where
   choose-all true a b h k = h
   choose-all false a b h k = k
 
--- P holds of what each command answers, whatever its arguments, and of FORM for any other record.
-pub record OfEach (P : Answer → Type 0) (d : List ℕ) (s : State) (z : Areas) : Type 0 where
-  pub load : (spoilt : Bool) (q : ℕ) → P (Charts.load spoilt q d s z)
+-- P holds of what each command answers, whatever its arguments, and of FORM for any other record. LOAD's slot is that of the record r, for
+-- it decides what a fault of the chart d is.
+pub record OfEach (P : Answer → Type 0) (r d : List ℕ) (s : State) (z : Areas) : Type 0 where
+  pub load : (spoilt : Bool) → P (Charts.load spoilt (arg r 1) d s z)
   pub start : (spoilt : Bool) (p q depth : ℕ) → P (Charts.start spoilt p q depth s z)
   pub new : (spoilt : Bool) (g n : ℕ) (payload : List ℕ) → P (Events.new spoilt g n payload s z)
   pub post : (spoilt : Bool) (b gen p margin : ℕ) → P (Events.post spoilt b gen p margin s z)
@@ -40,13 +41,14 @@ pub record OfEach (P : Answer → Type 0) (d : List ℕ) (s : State) (z : Areas)
   pub defer : (spoilt : Bool) (q : ℕ) → P (Aside.defer spoilt q s z)
   pub recall : (spoilt : Bool) (q p : ℕ) → P (Aside.recall spoilt q p s z)
   pub flush : (spoilt : Bool) (q : ℕ) → P (Aside.flush spoilt q s z)
+  pub flag : (spoilt : Bool) (p f v : ℕ) → P (Charts.flag spoilt p f v s z)
   pub form : P (answer s (no FORM) z)
 
-module _ (P : Answer → Type 0) (r d : List ℕ) (s : State) (z : Areas) (all : OfEach P d s z) where
+module _ (P : Answer → Type 0) (r d : List ℕ) (s : State) (z : Areas) (all : OfEach P r d s z) where
   pub command-all : (n : ℕ) → P (command n r d s z)
   unfolding command
   command-all n =
-      choose-all P _ _ _ (all .load _ _)
+      choose-all P _ _ _ (all .load _)
       (choose-all P _ _ _ (all .start _ _ _ _)
       (choose-all P _ _ _ (all .new _ _ _ _)
       (choose-all P _ _ _ (all .post _ _ _ _ _)
@@ -67,7 +69,8 @@ module _ (P : Answer → Type 0) (r d : List ℕ) (s : State) (z : Areas) (all :
       (choose-all P _ _ _ (all .defer _ _)
       (choose-all P _ _ _ (all .recall _ _ _)
       (choose-all P _ _ _ (all .flush _ _)
-      (all .form)))))))))))))))))))))
+      (choose-all P _ _ _ (all .flag _ _ _ _)
+      (all .form))))))))))))))))))))))
 
   pub answer-all : P (answerTo s r d z)
   unfolding answerTo

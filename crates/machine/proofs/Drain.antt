@@ -20,12 +20,12 @@ use Rattle.pool.specs.Cell.{Cell, free, live, retired, absent, atLast, generati
 use Rattle.pool.specs.Laws.{gone-at, gone-length, gone-never, gone-once-more}
 use Rattle.pool.specs.Row.{at, blocks, changed, generationAt, goneAll, goneTimes, onceMore}
 use Rattle.machine.proofs.Counts.{fewer-none, back-not-live}
-use Rattle.machine.proofs.KeepsSteps.{Ready, ready, step-ready, coming-event, coming-live, row-within, step-keeps}
+use Rattle.machine.proofs.KeepsSteps.{Ready, ready, step-ready, coming-event, coming-live, rows-within, step-keeps}
 use Rattle.machine.specs.Inv.{Inv, isLive, IsEvent}
-use Rattle.machine.specs.Reply.{lowest}
+use Rattle.machine.specs.Reply.{BothTables, lowest}
 use Rattle.machine.specs.Run.{Run, blockOf, begun, afterRun, seen, FitFor, onward, runFrom}
 use Rattle.machine.specs.State.{State, withCells}
-use Rattle.machine.specs.Steps.{toRun, coming, signalOf, firstByte, generationIn, nextRow, stepTests, stepped, nextSays, letGoHand, frees, ended, Drained, logged, drainFrom}
+use Rattle.machine.specs.Steps.{toRun, coming, signalOf, firstByte, generationIn, nextRows, nextAnswer, stepTests, stepped, nextSays, letGoHand, frees, ended, Drained, logged, drainFrom}
 
 -- Each step takes one entry.
 let-go-boxes : (h : Hand) (s : State) → letGoHand h s .boxes ≡ s .boxes
@@ -34,11 +34,11 @@ let-go-boxes Nothing s = refl
 let-go-boxes (Block b) s = refl
 let-go-boxes (Timer t g) s = refl
 
-pub step-boxes : (s : State) (tables : List ℕ) → ended (stepped s tables) .boxes ≡ tookFront (s .boxes) (toRun s - 1)
+pub step-boxes : (s : State) (tables : BothTables) → ended (stepped s tables) .boxes ≡ tookFront (s .boxes) (toRun s - 1)
 unfolding ended stepped
 step-boxes s tables = let-go-boxes _ _
 
-pub drain-falls : (k n : ℕ) (s : State) (tables log : List ℕ) →
+pub drain-falls : (k n : ℕ) (s : State) (tables : BothTables) (log : List ℕ) →
     queued (s .boxes) + n ≡ queued (drainFrom k n s tables log .state .boxes) + drainFrom k n s tables log .steps
 unfolding drainFrom
 drain-falls zero n s tables log = refl
@@ -105,29 +105,33 @@ abbrev pub gensOf : State → List ℕ
 gensOf s = tab (generationAt (s .cells)) blocks
 
 abbrev pub seenOf : State → Run → State
-seenOf s x = seen (gensOf s) (s .events .signals) (s .objects .seats) x
+seenOf s x = seen (gensOf s) (s .events .signals) (s .objects .seats) (s .flags) x
 
-abbrev pub onwardOf : State → List ℕ → Run → Run
-onwardOf s tables x = onward (gensOf s) (s .events .signals) (s .objects .seats) tables x
+abbrev pub onwardOf : State → BothTables → Run → Run
+onwardOf s tables x = onward (gensOf s) (s .events .signals) (s .objects .seats) (s .flags) tables x
 
-abbrev pub runOf : State → List ℕ → ℕ → Run → Run
-runOf s tables k x = runFrom (gensOf s) (s .events .signals) (s .objects .seats) tables k x
+abbrev pub runOf : State → BothTables → ℕ → Run → Run
+runOf s tables k x = runFrom (gensOf s) (s .events .signals) (s .objects .seats) (s .flags) tables k x
 
 -- A step in the state that a run has come to.
-module _ (s : State) (tables : List ℕ) (x : Run) where
+module _ (s : State) (tables : BothTables) (x : Run) where
   same-signal : (h : Hand) → signalOf (afterRun s x) h ≡ signalOf (seenOf s x) h
   unfolding signalOf
   same-signal Nothing = refl
   same-signal (Block b) = refl
   same-signal (Timer t g) = refl
 
-  pub same-row : nextRow (afterRun s x) tables ≡ nextRow (seenOf s x) tables
-  unfolding nextRow coming
-  same-row = rw (same-signal _) refl
+  same-rows : nextRows (afterRun s x) tables ≡ nextRows (seenOf s x) tables
+  unfolding nextRows coming
+  same-rows = rw (same-signal _) refl
+
+  same-answer : nextAnswer (afterRun s x) tables ≡ nextAnswer (seenOf s x) tables
+  unfolding nextAnswer
+  same-answer = rw same-rows refl
 
   pub same-tests : lowest (stepTests (afterRun s x) tables) ≡ lowest (stepTests (seenOf s x) tables)
   unfolding stepTests
-  same-tests = rw same-row refl
+  same-tests = rw same-rows refl
 
   module _ (i : Inv (afterRun s x)) (r : Ready (afterRun s x)) where
     pub same-handle : (h : Hand) → coming (afterRun s x) ≡ h → generationIn (afterRun s x) h ≡ generationIn (seenOf s x) h
@@ -142,7 +146,7 @@ module _ (s : State) (tables : List ℕ) (x : Run) where
 
     same-says : nextSays (afterRun s x) tables ≡ nextSays (seenOf s x) tables
     unfolding nextSays coming
-    same-says = rw (same-signal _, same-handle _ refl, same-row) refl
+    same-says = rw (same-signal _, same-handle _ refl, same-answer) refl
 
     same-state : s .hand ≡ Nothing → ended (stepped (afterRun s x) tables) ≡ afterRun s (onwardOf s tables x)
     unfolding ended stepped onward coming goneAll
@@ -150,7 +154,7 @@ module _ (s : State) (tables : List ℕ) (x : Run) where
         rw (
           let-go-is (coming (afterRun s x)) (stepped (afterRun s x) tables) (omega (arith, i .store .cells-length)),
           once-let-go (coming (afterRun s x)) (s .cells) (x .times) (coming-event (afterRun s x) i r) (sym (gone-length (s .cells) (x .times)) ∙ i .store .cells-length),
-          same-row,
+          same-answer,
           e,
         )
         refl
@@ -163,7 +167,7 @@ module _ (s : State) (tables : List ℕ) (x : Run) where
 abbrev pub drainedBy : State → Run → Drained
 drainedBy s x = record { steps = x .steps; state = afterRun s x; log = x .log }
 
-module _ (s : State) (tables : List ℕ) (e : s .hand ≡ Nothing) where
+module _ (s : State) (tables : BothTables) (e : s .hand ≡ Nothing) where
   -- the state that a run has come to is kept from step to step
   pub run-keeps : (x : Run) → Inv (afterRun s x) → lowest (stepTests (seenOf s x) tables) ≡ 0 → Inv (afterRun s (onwardOf s tables x))
   run-keeps x i t =
@@ -189,9 +193,9 @@ module _ (s : State) (tables : List ℕ) (e : s .hand ≡ Nothing) where
   unfolding coming
   fit x i l =
       let r = ready (afterRun s x) (ne-eqb (toRun (afterRun s x)) 0 (λ z. omega arith)) in
-      let w = row-within (afterRun s x) i r in
+      let w = rows-within (afterRun s x) i r in
       let g = same-signal s tables x (coming (seenOf s x)) in
-      record { event = coming-event (afterRun s x) i r; signal = rw (← g) (w .signal); rested = w .rest-low; end = rw (← g) (w .end) }
+      record { event = coming-event (afterRun s x) i r; signal = rw (← g) (w .signal); rested = w .rest-low; seated = w .slot; end = rw (← g) (w .end) }
 
   pub run-fit : (k : ℕ) (x : Run) → Inv (afterRun s x) → FitFor (seenOf s (runOf s tables k x))
   unfolding runFrom
@@ -206,6 +210,6 @@ pub begun-is : (s : State) (log : List ℕ) → afterRun s (begun s log) ≡ s
 begun-is s log = rw (gone-never (s .cells)) refl
 
 -- For a state that is kept, with no step open.
-pub drain-run : (s : State) (tables log : List ℕ) (budget : ℕ) → Inv s → s .hand ≡ Nothing →
+pub drain-run : (s : State) (tables : BothTables) (log : List ℕ) (budget : ℕ) → Inv s → s .hand ≡ Nothing →
     drainFrom budget 0 s tables log ≡ drainedBy s (runOf s tables budget (begun s log))
 drain-run s tables log budget i e = rw (gone-never (s .cells)) at (drain-on s tables e budget (begun s log) (rw (gone-never (s .cells)) i))

@@ -3,7 +3,7 @@ use mathlib.Core.List.{List}
 use Prim.Native.Nat.{ℕ}
 use Rattle.machine.proofs.Dispatch.{answer-all}
 use Rattle.machine.proofs.KeepsAside.{defer-keeps, recall-keeps, flush-keeps}
-use Rattle.machine.proofs.KeepsCharts.{load-keeps, start-keeps}
+use Rattle.machine.proofs.KeepsCharts.{load-keeps, start-keeps, flag-keeps}
 use Rattle.machine.proofs.KeepsClocks.{arm-keeps, disarm-keeps, tick-keeps}
 use Rattle.machine.proofs.KeepsEvents.{
   new-keeps,
@@ -25,7 +25,7 @@ use Rattle.machine.specs.State.{State}
 
 pub keeps : (s : State) (r d : List ℕ) (z : Areas) → Inv s → Inv (answerTo s r d z .state)
 keeps s r d z i = answer-all Kept r d s z (record {
-  load = load-keeps s z i d;
+  load = λ spoilt. load-keeps s z i d spoilt _;
   start = start-keeps s z i;
   new = new-keeps s z i;
   post = post-keeps s z i;
@@ -46,6 +46,7 @@ keeps s r d z i = answer-all Kept r d s z (record {
   defer = defer-keeps s z i;
   recall = recall-keeps s z i;
   flush = flush-keeps s z i;
+  flag = flag-keeps s z i;
   form = i;
 })
   where

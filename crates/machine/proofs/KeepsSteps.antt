@@ -8,8 +8,11 @@ use borrow.Author.Tests.{eqb-true, eqb-false, eq-eqb, not-false}
 use lib.Dec.{eqb}
 use lib.ListN.{length}
 use Rattle.ground.specs.Bools.{cond-pick, no-yes}
+use Rattle.chart.proofs.Theorems.{taken-within}
 use Rattle.chart.specs.Flat.{place}
-use Rattle.chart.specs.Numbers.{mostStates, slotSize, rowSize}
+use Rattle.chart.specs.Numbers.{each, mostStates, slotSize, rowSize}
+use Rattle.chart.specs.declared.read.Edition.{Edition}
+use Rattle.chart.specs.declared.read.Edition.the-variants.{Plain, Guarded}
 use Rattle.mail.specs.Box.{boxAt, front, one}
 use Rattle.mail.specs.Entry.{entryOf}
 use Rattle.mail.specs.Laws.{highest-is, occurrences-took}
@@ -19,18 +22,19 @@ use Rattle.pool.specs.Cell.{fewer}
 use Rattle.pool.specs.Row.{at, blocks, changed}
 use Rattle.machine.proofs.Blocks.{events-inv}
 use Rattle.machine.proofs.Counts.{refers, fewer-none, live-counted, counted-fewer, entry-in-hand}
-use Rattle.machine.proofs.KeepsCharts.{sound-next}
 use Rattle.machine.proofs.Parts.{store-changed, mail-took, objects-rest}
 use Rattle.machine.proofs.Tests.{NoneHolds, none-holds, unless-state}
 use Rattle.machine.specs.Inv.{Inv, references, inHand, isLive, IsSignal, IsEvent, InHand}
-use Rattle.machine.specs.Numbers.{objects, slots, tableBytes}
-use Rattle.machine.specs.Reply.{Areas, lowest}
-use Rattle.machine.specs.State.{State, depthOf, restOf, slotOf, isOpen, withHand}
+use Rattle.machine.specs.Numbers.{objects, slots, editionOf}
+use Rattle.machine.specs.Reply.{Areas, BothTables, lowest}
+use Rattle.machine.specs.State.{State, depthOf, restOf, isOpen, withHand}
 use Rattle.machine.specs.Steps.{
   toRun,
+  slotToRun,
   coming,
   signalOf,
-  nextRow,
+  nextRows,
+  nextAnswer,
   stepTests,
   nextTests,
   stepped,
@@ -71,7 +75,7 @@ ready s e =
     let l : 0 < toRun s = let ne = eqb-false (toRun s) 0 e in omega arith in
     record { low = l; high = f .most; mail = f .has-mail l }
 
-pub step-ready : (s : State) (tables : List ℕ) → lowest (stepTests s tables) ≡ 0 → Ready s
+pub step-ready : (s : State) (tables : BothTables) → lowest (stepTests s tables) ≡ 0 → Ready s
 unfolding stepTests
 step-ready s tables e = ready s (none-holds (stepTests s tables) refl e .0)
 
@@ -88,22 +92,28 @@ coming-live s b i r e =
     live-counted (at (s .cells) b)
     (omega (arith, i .counted b l, occurrences-took (s .boxes) (toRun s - 1) (r .mail) (entryOf (Block b)), entry-in-hand (front (s .boxes) (toRun s - 1)) b l))
 
--- Where the row of a step stands: its slot, its state of rest and its signal, and that it lies in the tables.
-pub record RowWithin (s : State) : Type 0 where
-  pub slot : slotOf s (toRun s) < slots
-  pub rest-low : 1 ≤ restOf s (toRun s)
-  pub rest-high : restOf s (toRun s) ≤ mostStates
-  pub signal : IsSignal (signalOf s (coming s))
-  pub end : slotSize * slotOf s (toRun s) + place (restOf s (toRun s)) (signalOf s (coming s)) + rowSize ≤ tableBytes
+-- The rows for a state and signal lie in the table of a slot.
+rows-end : (e : Edition) (x g : ℕ) → 1 ≤ x → x ≤ mostStates e → IsSignal g → place e x g 0 + rowSize * each e ≤ slotSize e
+unfolding place
+rows-end Plain x g low high is = omega arith
+rows-end Guarded x g low high is = omega arith
 
-pub row-within : (s : State) → Inv s → Ready s → RowWithin s
-unfolding place signalOf IsEvent
-row-within s i r =
+-- Where the rows of a step stand: its slot, its state of rest and its signal, and that they lie in the slot's table.
+pub record RowsWithin (s : State) : Type 0 where
+  pub slot : slotToRun s < slots
+  pub rest-low : 1 ≤ restOf s (toRun s)
+  pub rest-high : restOf s (toRun s) ≤ mostStates (editionOf (slotToRun s))
+  pub signal : IsSignal (signalOf s (coming s))
+  pub end : let e = editionOf (slotToRun s) in place e (restOf s (toRun s)) (signalOf s (coming s)) 0 + rowSize * each e ≤ slotSize e
+
+pub rows-within : (s : State) → Inv s → Ready s → RowsWithin s
+unfolding signalOf IsEvent
+rows-within s i r =
     let deep : 0 < depthOf s (toRun s) = omega (arith, i .mail .room (toRun s - 1), r .mail) in
     let rest = i .seats .rested (toRun s - 1) deep in
     let seat = i .seats .seated (toRun s - 1) deep in
     let g = signal (coming s) refl in
-    record { slot = seat .0; rest-low = rest .0; rest-high = rest .1; signal = g; end = omega (arith, seat .0, g .low, g .high) }
+    record { slot = seat .0; rest-low = rest .0; rest-high = rest .1; signal = g; end = rows-end _ _ _ (rest .0) (rest .1) g }
   where
     signal : (h : Hand) → coming s ≡ h → IsSignal (signalOf s h)
     signal Nothing e = absurd (rw e at (coming-event s i r))
@@ -111,17 +121,18 @@ row-within s i r =
     signal (Timer t g) e = (rw e at (coming-event s i r)) .1
 
 -- The reference moves from the mailbox to the hand.
-pub stepped-keeps : (s : State) (tables : List ℕ) → Inv s → s .hand ≡ Nothing → NoneHolds (stepTests s tables) → Inv (stepped s tables)
-unfolding stepped stepTests references coming inHand
+pub stepped-keeps : (s : State) (tables : BothTables) → Inv s → s .hand ≡ Nothing → NoneHolds (stepTests s tables) → Inv (stepped s tables)
+unfolding stepped stepTests nextAnswer references coming inHand
 stepped-keeps s tables i e t =
     let r = ready s (t .0) in
-    let n = sound-next (nextRow s tables) (not-false _ (t .1 .0)) in
+    let w = rows-within s i r in
+    let n = taken-within _ _ (nextRows s tables) _ (not-false _ (t .1 .0)) (w .rest-low) (w .rest-high) in
     let l : toRun s - 1 < objects = omega (arith, r .low, r .high, i .mail .boxes-length) in
     record {
       store = i .store;
       mail = mail-took (s .boxes) (s .objects .depths) (toRun s - 1) (i .mail) l;
       aside = i .aside;
-      seats = objects-rest (s .objects) (s .loaded) (i .seats) (toRun s - 1) _ l (n .0) (n .1);
+      seats = objects-rest (s .objects) (s .loaded) (i .seats) (toRun s - 1) _ l (n .low) (n .high);
       wants = i .wants;
       timers = i .timers;
       in-hand = event-in-hand (coming s) (coming-event s i r);
@@ -163,7 +174,7 @@ unfolding ended
 ended-hand s = refl
 
 -- Of DRAIN every step is one of NEXT and END.
-module _ (tables : List ℕ) where
+module _ (tables : BothTables) where
   pub step-keeps : (s : State) → Inv s → s .hand ≡ Nothing → lowest (stepTests s tables) ≡ 0 → Inv (ended (stepped s tables))
   unfolding stepTests
   step-keeps s i e t = ended-keeps (stepped s tables) (stepped-keeps s tables i e (none-holds (stepTests s tables) refl t))
@@ -182,7 +193,7 @@ module _ (s : State) (z : Areas) (i : Inv s) where
   unfolding next nextTests stepTests
   next-keeps spoilt =
       unless-state s z _ Inv i (nextTests spoilt s (z .tables)) refl (λ t.
-      stepped-keeps s (z .tables) i (closed-hand (s .hand) (t .1 .1 .0)) (t .1 .1 .1))
+      stepped-keeps s (z .tables) i (closed-hand (s .hand) (t .1 .1 .1 .0)) (t .1 .1 .1 .1))
 
   pub end-keeps : (spoilt : Bool) → Inv (end spoilt s z .state)
   unfolding end endTests
@@ -192,4 +203,4 @@ module _ (s : State) (z : Areas) (i : Inv s) where
   unfolding drain drainTests drainDone
   drain-keeps spoilt budget =
       unless-state s z _ Inv i (drainTests spoilt s (z .tables) (z .log)) refl (λ t.
-      drainFrom-keeps (z .tables) budget 0 s (z .log) i (closed-hand (s .hand) (t .1 .1 .1 .0)))
+      drainFrom-keeps (z .tables) budget 0 s (z .log) i (closed-hand (s .hand) (t .1 .1 .1 .1 .0)))

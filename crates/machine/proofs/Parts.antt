@@ -18,7 +18,7 @@ use Rattle.pool.specs.Laws.{changed-length}
 use Rattle.pool.specs.Row.{at, blocks, changed}
 use Rattle.machine.proofs.Counts.{MakesNoneLive}
 use Rattle.machine.specs.Inv.{isLive, IsSignal, IsEvent, IsBlock, StoreOk, MailOk, SidesOk, ObjectsOk, WantsOk, ArmedOk, TimersOk}
-use Rattle.machine.specs.Numbers.{objects, slots, timers, mostHolds, sideQueues, mostAside, signalPlaces, capacity}
+use Rattle.machine.specs.Numbers.{objects, slots, editionOf, timers, mostHolds, sideQueues, mostAside, signalPlaces, capacity}
 use Rattle.machine.specs.State.{State, Events, Objects, Timers, depthOf, started}
 
 -- a list that has a number above 0 at a place has that place
@@ -139,31 +139,37 @@ stays-deep depths q n l h = set-all (λ k (x : ℕ). 0 < getD depths k 0 → 0 <
 
 -- The objects.
 module _ (o : Objects) (loaded : List ℕ) (ok : ObjectsOk o loaded) (q : ℕ) where
-  pub objects-rest : (r : ℕ) → q < objects → 1 ≤ r → r ≤ mostStates → ObjectsOk (record { depths = o .depths; rests = set (o .rests) q r; seats = o .seats }) loaded
+  pub objects-rest : (r : ℕ) → q < objects → 1 ≤ r → r ≤ mostStates (editionOf (getD (o .seats) q 0)) →
+      ObjectsOk (record { depths = o .depths; rests = set (o .rests) q r; seats = o .seats }) loaded
   objects-rest r l low high = record {
     depths-length = ok .depths-length;
     rests-length = length-set (o .rests) q r ∙ ok .rests-length;
     seats-length = ok .seats-length;
     loaded-length = ok .loaded-length;
-    rested = set-all (λ k (x : ℕ). 0 < getD (o .depths) k 0 → (1 ≤ x) × (x ≤ mostStates)) (o .rests) 0 q r (omega arith) (λ k ne. ok .rested k) (λ h. (low, high));
+    rested =
+        set-all (λ k (x : ℕ). 0 < getD (o .depths) k 0 → (1 ≤ x) × (x ≤ mostStates (editionOf (getD (o .seats) k 0)))) (o .rests) 0 q r (omega arith)
+        (λ k ne. ok .rested k)
+        (λ h. (low, high));
     seated = ok .seated;
   }
 
-  pub objects-start : (n r c : ℕ) → q < objects → 1 ≤ r → r ≤ mostStates → c < slots → getD loaded c 0 ≡ 1 →
+  pub objects-start : (n r c : ℕ) → q < objects → 1 ≤ r → r ≤ mostStates (editionOf c) → c < slots → getD loaded c 0 ≡ 1 →
       ObjectsOk (record { depths = set (o .depths) q n; rests = set (o .rests) q r; seats = set (o .seats) q c }) loaded
   objects-start n r c l low high is-slot is-loaded =
       let m : q < length (o .depths) = omega arith in
+      let rest : ℕ → ℕ = λ k. getD (set (o .rests) q r) k 0 in
+      let seat : ℕ → ℕ = λ k. getD (set (o .seats) q c) k 0 in
       record {
         depths-length = length-set (o .depths) q n ∙ ok .depths-length;
         rests-length = length-set (o .rests) q r ∙ ok .rests-length;
         seats-length = length-set (o .seats) q c ∙ ok .seats-length;
         loaded-length = ok .loaded-length;
         rested =
-            set-all (λ k (x : ℕ). 0 < x → (1 ≤ getD (set (o .rests) q r) k 0) × (getD (set (o .rests) q r) k 0 ≤ mostStates)) (o .depths) 0 q n m
-            (λ k ne h. rw (getD-set-other (o .rests) q k r 0 ne) (ok .rested k h))
-            (λ h. rw (getD-set-same (o .rests) q r 0 (omega arith)) (low, high));
+            set-all (λ k (x : ℕ). 0 < x → (1 ≤ rest k) × (rest k ≤ mostStates (editionOf (seat k)))) (o .depths) 0 q n m
+            (λ k ne h. rw (getD-set-other (o .rests) q k r 0 ne, getD-set-other (o .seats) q k c 0 ne) (ok .rested k h))
+            (λ h. rw (getD-set-same (o .rests) q r 0 (omega arith), getD-set-same (o .seats) q c 0 (omega arith)) (low, high));
         seated =
-            set-all (λ k (x : ℕ). 0 < x → (getD (set (o .seats) q c) k 0 < slots) × (getD loaded (getD (set (o .seats) q c) k 0) 0 ≡ 1)) (o .depths) 0 q n m
+            set-all (λ k (x : ℕ). 0 < x → (seat k < slots) × (getD loaded (seat k) 0 ≡ 1)) (o .depths) 0 q n m
             (λ k ne h. rw (getD-set-other (o .seats) q k c 0 ne) (ok .seated k h))
             (λ h. rw (getD-set-same (o .seats) q c 0 (omega arith)) (is-slot, is-loaded));
       }

@@ -12,12 +12,13 @@ use Rattle.ground.specs.Padding.{length-padded}
 use Rattle.ground.specs.Bools.{and-left, and-right, cond-pick}
 use Rattle.chart.specs.Chart.{classOf}
 use Rattle.chart.specs.Numbers.{mostActions}
+use Rattle.chart.specs.Step
 use Rattle.pool.specs.declared.Found.{Found}
 use Rattle.pool.specs.declared.Found.the-variants.{At, Nothing}
 use Rattle.machine.proofs.Dispatch.{OfEach, answer-all}
 use Rattle.machine.proofs.Tests.{unless-pick, fault-pick}
 use Rattle.machine.specs.Aside.{deferTests, defer, recallTests, recallDone, recall, flushTests, flush}
-use Rattle.machine.specs.Charts.{loadTests, load, startTests, start}
+use Rattle.machine.specs.Charts.{loadTests, load, startTests, start, flagTests, flag}
 use Rattle.machine.specs.Clocks.{armTests, arm, disarmTests, disarm, tickDone, tick}
 use Rattle.machine.specs.Events.{
   newTests,
@@ -42,8 +43,8 @@ use Rattle.machine.specs.Events.{
   readTests,
   read,
 }
-use Rattle.machine.specs.Machine.{answerTo}
-use Rattle.machine.specs.Numbers.{replyBytes}
+use Rattle.machine.specs.Machine.{arg, answerTo}
+use Rattle.machine.specs.Numbers.{editionOf, replyBytes}
 use Rattle.machine.specs.Reply.{FORM, CHART, Said, no, badChart, done, made, ran, shown, handle, bytes, replyOf, Areas, Answer, answer, lowest, unless, unlessFault}
 use Rattle.machine.specs.State.{State}
 use Rattle.machine.specs.Steps.{stepTests, nextTests, nextSays, next, endTests, end, drainTests, drainDone, drain}
@@ -58,23 +59,27 @@ reply-length (no n) = bytes-length _ _ _ _ _ _ _ _ _ refl
 reply-length (badChart c) = bytes-length _ _ _ _ _ _ _ _ _ refl
 reply-length (done v w) = bytes-length _ _ _ _ _ _ _ _ _ refl
 reply-length (made b gen mark) = bytes-length _ _ _ _ _ _ _ _ _ refl
-reply-length (ran p g first gen row) = bytes-length _ _ _ _ _ _ _ _ _ refl
+reply-length (ran p g first gen b) = bytes-length _ _ _ _ _ _ _ _ _ refl
 reply-length (shown l) = bytes-length _ _ _ _ _ _ _ _ _ refl
 
 -- The number of an answer.
 abbrev pub numberOf : Answer → ℕ
 numberOf a = getD (a .reply) 0 0
 
--- A refusal: only the reply is written, which is the number and zeros, but for CHART, whose value byte is the class of the chart d.
-pub record Refuses (d : List ℕ) (s : State) (z : Areas) (a : Answer) : Type 0 where
+-- A refusal: only the reply is written, which is the number and zeros, but for CHART, whose value byte is the class of the chart d by the
+-- edition of the slot that the record r names.
+abbrev classIn : List ℕ → List ℕ → ℕ
+classIn r d = classOf (editionOf (arg r 1)) d
+
+pub record Refuses (r d : List ℕ) (s : State) (z : Areas) (a : Answer) : Type 0 where
   pub state : a .state ≡ s
   pub areas : a .areas ≡ z
-  pub reply : a .reply ≡ numberOf a ∷ 0 ∷ 0 ∷ 0 ∷ cond (eqb (numberOf a) CHART) (classOf d) 0 ∷ replicate 23 0
+  pub reply : a .reply ≡ numberOf a ∷ 0 ∷ 0 ∷ 0 ∷ cond (eqb (numberOf a) CHART) (classIn r d) 0 ∷ replicate 23 0
 
-pub record Replies (d : List ℕ) (s : State) (z : Areas) (a : Answer) : Type 0 where
+pub record Replies (r d : List ℕ) (s : State) (z : Areas) (a : Answer) : Type 0 where
   pub long : length (a .reply) ≡ replyBytes
   pub small : numberOf a ≤ 15
-  pub refusal : 0 < numberOf a → Refuses d s z a
+  pub refusal : 0 < numberOf a → Refuses r d s z a
 
 -- The numbers of a list of tests are refusals other than CHART: of a list that is written out this computes.
 abbrev refusals : List (ℕ × Bool) → Bool
@@ -97,65 +102,65 @@ refusal-is (x ∷ l) h =
     })
     (λ e. refusal-is l (and-right (not (eqb (x .0) CHART)) (refusals l) more))
 
-module _ (d : List ℕ) (s : State) (z : Areas) where
+module _ (r d : List ℕ) (s : State) (z : Areas) where
   -- what is done has the number 0
   module _ (t : State) (y : Areas) where
-    does : (w : Said) → getD (replyOf w) 0 0 ≡ 0 → Replies d s z (answer t w y)
+    does : (w : Said) → getD (replyOf w) 0 0 ≡ 0 → Replies r d s z (answer t w y)
     does w e = record { long = reply-length w; small = omega arith; refusal = λ h. absurd (omega arith) }
 
-    says : (v w : ℕ) → Replies d s z (answer t (done v w) y)
+    says : (v w : ℕ) → Replies r d s z (answer t (done v w) y)
     unfolding replyOf bytes
     says v w = does (done v w) refl
 
-    makes : (b gen mark : ℕ) → Replies d s z (answer t (made b gen mark) y)
+    makes : (b gen mark : ℕ) → Replies r d s z (answer t (made b gen mark) y)
     unfolding replyOf bytes
     makes b gen mark = does (made b gen mark) refl
 
-    runs : (p g first gen : ℕ) (row : List ℕ) → Replies d s z (answer t (ran p g first gen row) y)
+    runs : (p g first gen : ℕ) (b : Step.Answer) → Replies r d s z (answer t (ran p g first gen b) y)
     unfolding replyOf bytes
-    runs p g first gen row = does (ran p g first gen row) refl
+    runs p g first gen b = does (ran p g first gen b) refl
 
-    shows : (l : List ℕ) → Replies d s z (answer t (shown l) y)
+    shows : (l : List ℕ) → Replies r d s z (answer t (shown l) y)
     unfolding replyOf bytes
     shows l = does (shown l) refl
 
-  refuses : (n : ℕ) → Refusal n → Replies d s z (answer s (no n) z)
+  refuses : (n : ℕ) → Refusal n → Replies r d s z (answer s (no n) z)
   unfolding replyOf bytes padded
-  refuses n r = record { long = reply-length (no n); small = r .small; refusal = λ h. record { state = refl; areas = refl; reply = rw (r .other) refl } }
+  refuses n is = record { long = reply-length (no n); small = is .small; refusal = λ h. record { state = refl; areas = refl; reply = rw (is .other) refl } }
 
-  unless-replies : (l : List (ℕ × Bool)) (a : Answer) → refusals l ≡ true → Replies d s z a → Replies d s z (unless (lowest l) s z a)
-  unless-replies l a h k = unless-pick s z a (Replies d s z) (lowest l) (λ n e. refuses (suc n) (rw e at (refusal-is l h))) (λ e. k)
+  unless-replies : (l : List (ℕ × Bool)) (a : Answer) → refusals l ≡ true → Replies r d s z a → Replies r d s z (unless (lowest l) s z a)
+  unless-replies l a h k = unless-pick s z a (Replies r d s z) (lowest l) (λ n e. refuses (suc n) (rw e at (refusal-is l h))) (λ e. k)
 
   -- LOAD, whose chart has a class
-  fault-replies : (a : Answer) → Replies d s z a → Replies d s z (unlessFault (classOf d) s z a)
+  fault-replies : (a : Answer) → Replies r d s z a → Replies r d s z (unlessFault (classIn r d) s z a)
   unfolding replyOf bytes padded
   fault-replies a k =
-      fault-pick s z a (Replies d s z) (classOf d)
+      fault-pick s z a (Replies r d s z) (classIn r d)
       (λ c e. record { long = reply-length (badChart (suc c)); small = omega arith; refusal = λ h. record { state = refl; areas = refl; reply = rw e refl } })
       (λ e. k)
 
-  newIn-replies : (f : Found) (g n : ℕ) (payload : List ℕ) → Replies d s z (newIn f g n payload s z)
+  newIn-replies : (f : Found) (g n : ℕ) (payload : List ℕ) → Replies r d s z (newIn f g n payload s z)
   unfolding newIn
   newIn-replies (At b) g n payload = makes _ _ _ _ _
   newIn-replies Nothing g n payload = says _ _ _ _
 
-  publishDone-replies : (n b : ℕ) → Replies d s z (publishDone n b s z)
+  publishDone-replies : (n b : ℕ) → Replies r d s z (publishDone n b s z)
   unfolding publishDone
   publishDone-replies zero b = says _ _ _ _
   publishDone-replies (suc n) b = says _ _ _ _
 
-  recallDone-replies : (n q p : ℕ) → Replies d s z (recallDone n q p s z)
+  recallDone-replies : (n q p : ℕ) → Replies r d s z (recallDone n q p s z)
   unfolding recallDone
   recallDone-replies zero q p = says _ _ _ _
   recallDone-replies (suc n) q p = says _ _ _ _
 
-  each : OfEach (Replies d s z) d s z
+  each : OfEach (Replies r d s z) r d s z
   unfolding load loadTests start startTests arm armTests disarm disarmTests tick tickDone
       new newTests post postTests postFront postFrontTests publish publishTests subscribe unsubscribe subscribeTests hold holdTests
       release releaseTests dropEvent dropTests read readTests next nextTests stepTests nextSays end endTests drain drainTests drainDone defer deferTests recall recallTests
-      flush flushTests
+      flush flushTests flag flagTests
   each = record {
-    load = λ u q. unless-replies (loadTests u q s (z .tables)) _ refl (fault-replies _ (says _ _ _ _));
+    load = λ u. unless-replies (loadTests u (arg r 1) s (z .tables)) _ refl (fault-replies _ (says _ _ _ _));
     start = λ u p q depth. unless-replies (startTests u p q depth s (z .tables)) _ refl (runs _ _ _ _ _ _ _);
     new = λ u g n payload. unless-replies (newTests u g n s (z .payloads)) _ refl (newIn-replies _ g n payload);
     post = λ u b gen p margin. unless-replies (postTests u b gen p margin s) _ refl (says _ _ _ _);
@@ -176,8 +181,9 @@ module _ (d : List ℕ) (s : State) (z : Areas) where
     defer = λ u q. unless-replies (deferTests u q s) _ refl (says _ _ _ _);
     recall = λ u q p. unless-replies (recallTests u q p s) _ refl (recallDone-replies _ q p);
     flush = λ u q. unless-replies (flushTests u q) _ refl (says _ _ _ _);
+    flag = λ u p f v. unless-replies (flagTests u p f v s) _ refl (says _ _ _ _);
     form = refuses FORM (record { small = omega arith; other = refl });
   }
 
-pub replies : (s : State) (r d : List ℕ) (z : Areas) → Replies d s z (answerTo s r d z)
-replies s r d z = answer-all (Replies d s z) r d s z (each d s z)
+pub replies : (s : State) (r d : List ℕ) (z : Areas) → Replies r d s z (answerTo s r d z)
+replies s r d z = answer-all (Replies r d s z) r d s z (each r d s z)

@@ -5,18 +5,20 @@ use Prim.Native.Nat.{ℕ, zero, suc, _+_, _-_, _≤_, _<_}
 use native.Mathlib.Omega.{arith}
 use borrow.Author.Tests.{eq-eqb, ne-eqb}
 use lib.Dec.{eqb}
+use Rattle.chart.specs.Flags.{Flags}
 use Rattle.ground.specs.Bools.{cond-pick}
+use Rattle.machine.specs.Reply.{BothTables}
 use Rattle.machine.specs.Run.{Run, FitFor, FitRun, mayStep, onward, runFrom, seen}
 
-module _ (gens signals seats tables : List ℕ) where
+module _ (gens signals seats : List ℕ) (flags : ℕ → Flags) (tables : BothTables) where
   abbrev may : Run → ℕ
-  may x = mayStep gens signals seats tables x
+  may x = mayStep gens signals seats flags tables x
 
   abbrev on : Run → Run
-  on x = onward gens signals seats tables x
+  on x = onward gens signals seats flags tables x
 
   abbrev from : ℕ → Run → Run
-  from k x = runFrom gens signals seats tables k x
+  from k x = runFrom gens signals seats flags tables k x
 
   module _ (x : Run) where
     -- at step n of e
@@ -34,11 +36,11 @@ module _ (gens signals seats tables : List ℕ) where
     run-step n e h t = let z : e - n ≡ suc (e - (n + 1)) = omega arith in rw (z, eq-eqb (may x) 0 t) refl
 
     -- the state that it stands in is fit for a step, and so are those after it
-    pub fit-now : FitRun gens signals seats tables x → FitFor (seen gens signals seats x)
+    pub fit-now : FitRun gens signals seats flags tables x → FitFor (seen gens signals seats flags x)
     unfolding runFrom
     fit-now f = f 0
 
-    pub fit-on : may x ≡ 0 → FitRun gens signals seats tables x → FitRun gens signals seats tables (on x)
+    pub fit-on : may x ≡ 0 → FitRun gens signals seats flags tables x → FitRun gens signals seats flags tables (on x)
     unfolding runFrom
     fit-on t f = λ k. rw (eq-eqb (may x) 0 t) at (f (suc k))
 

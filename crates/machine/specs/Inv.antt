@@ -13,7 +13,7 @@ use Rattle.mail.specs.declared.Hand.{Hand}
 use Rattle.mail.specs.declared.Hand.the-variants.{Nothing, Block, Timer}
 use Rattle.pool.specs.Cell.{Cell, free, live, retired, absent}
 use Rattle.pool.specs.Row.{at}
-use Rattle.machine.specs.Numbers.{objects, blocks, timers, slots, mostHolds, sideQueues, mostAside, signalPlaces, capacity}
+use Rattle.machine.specs.Numbers.{objects, blocks, timers, slots, editionOf, mostHolds, sideQueues, mostAside, signalPlaces, capacity}
 use Rattle.machine.specs.State.{State, Events, Objects, Timers}
 
 -- What refers to block b: its mailbox entries, its side entries, its holds, the step in hand.
@@ -82,13 +82,13 @@ pub record SidesOk (sides : List (List ℕ)) : Type 0 where
   pub room : (q : ℕ) → length (boxAt sides q) ≤ mostAside
   pub entries : (q i : ℕ) → i < length (boxAt sides q) → IsBlock (handOf (getD (boxAt sides q) i 0))
 
--- The objects: a started one rests in a state 1-24, on a slot that is loaded.
+-- The objects: a started one rests in a state 1-24, on the guarded slot 1-8, and its slot is loaded.
 pub record ObjectsOk (o : Objects) (loaded : List ℕ) : Type 0 where
   pub depths-length : length (o .depths) ≡ objects
   pub rests-length : length (o .rests) ≡ objects
   pub seats-length : length (o .seats) ≡ objects
   pub loaded-length : length loaded ≡ slots
-  pub rested : (q : ℕ) → 0 < getD (o .depths) q 0 → (1 ≤ getD (o .rests) q 0) × (getD (o .rests) q 0 ≤ mostStates)
+  pub rested : (q : ℕ) → 0 < getD (o .depths) q 0 → (1 ≤ getD (o .rests) q 0) × (getD (o .rests) q 0 ≤ mostStates (editionOf (getD (o .seats) q 0)))
   pub seated : (q : ℕ) → 0 < getD (o .depths) q 0 → (getD (o .seats) q 0 < slots) × (getD loaded (getD (o .seats) q 0) 0 ≡ 1)
 
 -- Subscribers are started.

@@ -6,7 +6,7 @@ use lib.Dec.{eqb}
 use lib.ListN.{length, getD, drop}
 use Rattle.ground.specs.Bytes.{blank}
 use Rattle.machine.specs.Aside.{defer, recall, flush}
-use Rattle.machine.specs.Charts.{load, start}
+use Rattle.machine.specs.Charts.{load, start, flag}
 use Rattle.machine.specs.Clocks.{arm, disarm, tick}
 use Rattle.machine.specs.Events.{new, post, postFront, publish, subscribe, unsubscribe, hold, release, dropEvent, read, readPart, readAt}
 use Rattle.machine.specs.Numbers.{recordBytes, noSize}
@@ -64,7 +64,8 @@ command n r d s z =
     (choose (eqb n 19) (defer (spoilt 1 r) (arg r 1) s z)
     (choose (eqb n 20) (recall (spoilt 2 r) (arg r 1) (arg r 2) s z)
     (choose (eqb n 21) (flush (spoilt 1 r) (arg r 1) s z)
-    (answer s (no FORM) z)))))))))))))))))))))
+    (choose (eqb n 22) (flag (spoilt 3 r) (arg r 1) (arg r 2) (arg r 3) s z)
+    (answer s (no FORM) z))))))))))))))))))))))
 
 unfoldable pub answerTo : State → List ℕ → List ℕ → Areas → Answer
 answerTo s r d z = choose (eqb (length r) recordBytes) (command (arg r 0) r d s z) (answer s (no FORM) z)

@@ -1,8 +1,10 @@
 -- Document 01, "Numbers of the kernel", and those of document 02.
 use mathlib.Core.Bool.{Bool, cond, _||_}
 use Prim.Native.Nat.{ℕ, _+_, _*_, _-_}
-use lib.Dec.{ltb}
-use Rattle.chart.specs.Numbers.{slotSize, firstSignal, lastSignal}
+use lib.Dec.{eqb, ltb}
+use Rattle.chart.specs.Numbers.{slotSize, mostFlag, firstSignal, lastSignal}
+use Rattle.chart.specs.declared.read.Edition.{Edition}
+use Rattle.chart.specs.declared.read.Edition.the-variants.{Plain, Guarded}
 use Rattle.mail.specs.Box.{room}
 pub use Rattle.pool.specs.Row.{blocks}
 
@@ -12,8 +14,18 @@ objects = 16
 abbrev pub timers : ℕ
 timers = 16
 
+-- Four slots take plain charts, and a fifth, slot 4, takes a guarded one (document 02, request 8).
+abbrev pub plainSlots : ℕ
+plainSlots = 4
+
+abbrev pub guardedSlot : ℕ
+guardedSlot = 4
+
 abbrev pub slots : ℕ
-slots = 4
+slots = plainSlots + 1
+
+unfoldable pub editionOf : ℕ → Edition
+editionOf q = cond (eqb q guardedSlot) Guarded Plain
 
 abbrev pub mostHolds : ℕ
 mostHolds = 15
@@ -33,8 +45,8 @@ mostBytes = 64
 abbrev pub signalPlaces : ℕ
 signalPlaces = 32
 
--- The bytes of a record, of a reply, which ends with a handle, and of the areas: payloads, tables, log, which has a line for each of the
--- most steps of a DRAIN.
+-- The bytes of a record, of a reply, which ends with a handle, and of the areas: payloads, the tables of the plain slots, the guarded
+-- table, log, which has a line for each of the most steps of a DRAIN.
 abbrev pub recordBytes : ℕ
 recordBytes = 72
 
@@ -48,7 +60,10 @@ abbrev pub payloadBytes : ℕ
 payloadBytes = 1536
 
 abbrev pub tableBytes : ℕ
-tableBytes = slots * slotSize
+tableBytes = plainSlots * slotSize Plain
+
+abbrev pub guardedBytes : ℕ
+guardedBytes = slotSize Guarded
 
 abbrev pub mostSteps : ℕ
 mostSteps = 255
@@ -73,7 +88,14 @@ abbrev pub noTimer : ℕ → Bool
 noTimer t = outside 0 15 t
 
 abbrev pub noSlot : ℕ → Bool
-noSlot q = outside 0 3 q
+noSlot q = outside 0 4 q
+
+abbrev pub noFlag : ℕ → Bool
+noFlag f = outside 1 (mostFlag Guarded) f
+
+-- A flag is cleared by 0 and set by 1.
+abbrev pub noValue : ℕ → Bool
+noValue v = outside 0 1 v
 
 abbrev pub noBlock : ℕ → Bool
 noBlock b = outside 0 55 b

@@ -4,6 +4,7 @@ use mathlib.Core.List.{List, [], _∷_, _++_}
 use Prim.Native.Nat.{ℕ, zero, suc, _+_, _*_, _/_, _%_}
 use lib.ListN.{length, getD, take, drop}
 use Rattle.chart.specs.Numbers.{mostActions}
+use Rattle.chart.specs.Step
 use Rattle.ground.specs.Bytes.{padded}
 use Rattle.machine.specs.State.{State}
 
@@ -56,14 +57,14 @@ abbrev pub TABLE : ℕ
 TABLE = 15
 
 -- What a reply says: a refusal by its number; CHART with the class; DONE with two values; DONE of NEW with block and generation and the
--- pool's mark; DONE of START and NEXT with the object, the signal, the event's first byte and generation (0 and 0 for START) and the row
--- that was taken; DONE of READ with the payload.
+-- pool's mark; DONE of START and NEXT with the object, the signal, the event's first byte and generation (0 and 0 for START) and what the
+-- table answers; DONE of READ with the payload.
 pub data Said : Type 0 where
   no : ℕ → Said
   badChart : ℕ → Said
   done : ℕ → ℕ → Said
   made : ℕ → ℕ → ℕ → Said
-  ran : ℕ → ℕ → ℕ → ℕ → List ℕ → Said
+  ran : ℕ → ℕ → ℕ → ℕ → Step.Answer → Said
   shown : List ℕ → Said
 
 -- A handle: a block, or 128 and a timer, then the generation in three bytes, low first.
@@ -86,13 +87,21 @@ replyOf (no n) = bytes n 0 0 0 0 0 0 [] noHandle
 replyOf (badChart c) = bytes CHART 0 0 0 0 c 0 [] noHandle
 replyOf (done v w) = bytes DONE 0 0 0 0 v w [] noHandle
 replyOf (made b gen mark) = bytes DONE 0 0 0 mark 0 0 [] (handle b gen)
-replyOf (ran p g first gen row) = bytes DONE p (getD row 1 0) g (getD row 2 0) 0 0 (drop 3 row) (handle first gen)
+replyOf (ran p g first gen a) = bytes DONE p (a .outcome) g (length (a .acts)) 0 0 (a .acts) (handle first gen)
 replyOf (shown l) = bytes DONE 0 0 0 (length (take mostActions l)) (length l) 0 l noHandle
+
+-- The flat tables that a call is lent: those of the plain slots, one behind the other, and that of the guarded slot.
+pub record BothTables : Type 0 where
+  pub plain : List ℕ
+  pub guarded : List ℕ
+
+abbrev pub both : List ℕ → List ℕ → BothTables
+both t g = record { plain = t; guarded = g }
 
 -- The areas that a call is lent, and what it answers: the state, the reply, and the areas.
 pub record Areas : Type 0 where
   pub payloads : List ℕ
-  pub tables : List ℕ
+  pub tables : BothTables
   pub log : List ℕ
 
 pub record Answer : Type 0 where
@@ -122,7 +131,7 @@ unlessFault (suc c) s z a = answer s (badChart (suc c)) z
 abbrev pub withPayloads : List ℕ → Areas → Areas
 withPayloads x z = record { payloads = x; tables = z .tables; log = z .log }
 
-abbrev pub withTables : List ℕ → Areas → Areas
+abbrev pub withTables : BothTables → Areas → Areas
 withTables x z = record { payloads = z .payloads; tables = x; log = z .log }
 
 abbrev pub withLog : List ℕ → Areas → Areas

@@ -5,8 +5,9 @@ use mathlib.Core.List.{List, []}
 use Prim.Native.Nat.{ℕ, zero, suc, _+_, _*_, _-_, _≤_, _<_}
 use lib.Dec.{eqb}
 use lib.ListN.{length, getD, set}
+use Rattle.chart.specs.Flags.{Flags}
 use Rattle.chart.specs.Flat.{place}
-use Rattle.chart.specs.Numbers.{slotSize, rowSize}
+use Rattle.chart.specs.Numbers.{each, slotSize, rowSize}
 use Rattle.ground.specs.Range.{tab}
 use Rattle.mail.specs.Box.{tookFront}
 use Rattle.mail.specs.Entry.{handOf}
@@ -15,10 +16,10 @@ use Rattle.mail.specs.declared.Hand.the-variants.{Nothing, Block, Timer}
 use Rattle.pool.specs.Cell.{free}
 use Rattle.pool.specs.Row.{blocks, goneTimes, never, onceMore}
 use Rattle.machine.specs.Inv.{IsEvent, IsSignal}
-use Rattle.machine.specs.Numbers.{tableBytes}
-use Rattle.machine.specs.Reply.{lowest}
-use Rattle.machine.specs.State.{State, restOf, slotOf, withCells, withBoxes, withRests}
-use Rattle.machine.specs.Steps.{toRun, coming, signalOf, firstByte, nextRow, stepTests, logged}
+use Rattle.machine.specs.Numbers.{slots, editionOf}
+use Rattle.machine.specs.Reply.{BothTables, lowest}
+use Rattle.machine.specs.State.{State, restOf, withCells, withBoxes, withRests}
+use Rattle.machine.specs.Steps.{toRun, slotToRun, coming, signalOf, firstByte, nextAnswer, stepTests, logged}
 
 -- What changes from step to step: how many there were, the mailboxes, the states of rest, the log, and how often each block is let go.
 pub record Run : Type 0 where
@@ -48,9 +49,9 @@ begun s log = record { steps = 0; boxes = s .boxes; rests = s .objects .rests; l
 abbrev pub afterRun : State → Run → State
 afterRun s x = withCells (goneTimes (s .cells) (x .times)) (withBoxes (x .boxes) (withRests (x .rests) s))
 
--- What a step reads, over the generations, the signals and the slots of the start: a state with all else empty.
-abbrev pub seen : List ℕ → List ℕ → List ℕ → Run → State
-seen gens signals seats x = record {
+-- What a step reads, over the generations, the signals, the slots and the flags of the start: a state with all else empty.
+abbrev pub seen : List ℕ → List ℕ → List ℕ → (ℕ → Flags) → Run → State
+seen gens signals seats flags x = record {
   cells = tab (λ b. free (getD gens b 0)) blocks;
   marks = [];
   events = record { signals = signals; sizes = []; holds = [] };
@@ -58,35 +59,37 @@ seen gens signals seats x = record {
   sides = [];
   objects = record { depths = []; rests = x .rests; seats = seats };
   wants = [];
+  flags = flags;
   loaded = [];
   timers = record { owners = []; alarms = []; counters = []; intervals = [] };
   hand = Nothing;
 }
 
--- What a step needs of the state that it is taken in: what comes is an event with a signal, the object rests in a state, and the row for
--- both lies in the tables.
+-- What a step needs of the state that it is taken in: what comes is an event with a signal, the object rests in a state, and the rows for
+-- both lie in the table of its slot.
 pub record Fit (s : State) : Type 0 where
   pub event : IsEvent (coming s)
   pub signal : IsSignal (signalOf s (coming s))
   pub rested : 1 ≤ restOf s (toRun s)
-  pub end : slotSize * slotOf s (toRun s) + place (restOf s (toRun s)) (signalOf s (coming s)) + rowSize ≤ tableBytes
+  pub seated : slotToRun s < slots
+  pub end : let e = editionOf (slotToRun s) in place e (restOf s (toRun s)) (signalOf s (coming s)) 0 + rowSize * each e ≤ slotSize e
 
 -- It is so if anything is queued.
 abbrev pub FitFor : State → Type 0
 FitFor s = 0 < toRun s → Fit s
 
-module _ (gens signals seats tables : List ℕ) where
+module _ (gens signals seats : List ℕ) (flags : ℕ → Flags) (tables : BothTables) where
   -- 0 if a step may be taken, else why not
   abbrev pub mayStep : Run → ℕ
-  mayStep x = lowest (stepTests (seen gens signals seats x) tables)
+  mayStep x = lowest (stepTests (seen gens signals seats flags x) tables)
 
   unfoldable pub onward : Run → Run
   onward x = record {
     steps = x .steps + 1;
-    boxes = tookFront (x .boxes) (toRun (seen gens signals seats x) - 1);
-    rests = set (x .rests) (toRun (seen gens signals seats x) - 1) (getD (nextRow (seen gens signals seats x) tables) 0 0);
-    log = logged (seen gens signals seats x) tables (x .steps) (x .log);
-    times = onceMore (x .times) (firstByte (coming (seen gens signals seats x)));
+    boxes = tookFront (x .boxes) (toRun (seen gens signals seats flags x) - 1);
+    rests = set (x .rests) (toRun (seen gens signals seats flags x) - 1) (nextAnswer (seen gens signals seats flags x) tables .next);
+    log = logged (seen gens signals seats flags x) tables (x .steps) (x .log);
+    times = onceMore (x .times) (firstByte (coming (seen gens signals seats flags x)));
   }
 
   -- at most k steps more
@@ -96,4 +99,4 @@ module _ (gens signals seats tables : List ℕ) where
 
   -- each state that a run comes to, from x on, is fit for a step
   abbrev pub FitRun : Run → Type 0
-  FitRun x = (k : ℕ) → FitFor (seen gens signals seats (runFrom k x))
+  FitRun x = (k : ℕ) → FitFor (seen gens signals seats flags (runFrom k x))

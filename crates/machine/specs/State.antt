@@ -1,9 +1,10 @@
 -- The kernel's state, and a fresh start.
-use mathlib.Core.Bool.{Bool, true, false, not}
+use mathlib.Core.Bool.{Bool, true, false, cond, not}
 use mathlib.Core.List.{List, []}
 use Prim.Native.Nat.{ℕ, _+_, _*_, _-_}
 use lib.Dec.{eqb}
 use lib.ListN.{length, getD, replicate}
+use Rattle.chart.specs.Flags.{Flags, allDown}
 use Rattle.mail.specs.Box.{boxAt}
 use Rattle.mail.specs.declared.Hand.{Hand}
 use Rattle.mail.specs.declared.Hand.the-variants.{Nothing, Block, Timer}
@@ -44,7 +45,9 @@ pub record State : Type 0 where
   pub objects : Objects
   -- 1 at place 32 (p - 1) + g: object p subscribes to signal g
   pub wants : List ℕ
-  -- 1 for each of the 4 slots that has a chart
+  -- the flags of object p are those at p
+  pub flags : ℕ → Flags
+  -- 1 for each of the 5 slots that has a chart
   pub loaded : List ℕ
   pub timers : Timers
   -- the event in hand: a step is open while there is one
@@ -59,6 +62,7 @@ freshState = record {
   sides = replicate sideQueues [];
   objects = record { depths = replicate objects 0; rests = replicate objects 0; seats = replicate objects 0 };
   wants = replicate (signalPlaces * objects) 0;
+  flags = λ p. allDown;
   loaded = replicate slots 0;
   timers = record { owners = replicate timers 0; alarms = replicate timers 0; counters = replicate timers 0; intervals = replicate timers 0 };
   hand = Nothing;
@@ -118,34 +122,37 @@ isOpen (Timer t g) = true
 
 -- The state with one part replaced.
 abbrev pub withCells : List Cell → State → State
-withCells x s = record { cells = x; marks = s .marks; events = s .events; boxes = s .boxes; sides = s .sides; objects = s .objects; wants = s .wants; loaded = s .loaded; timers = s .timers; hand = s .hand }
+withCells x s = record { cells = x; marks = s .marks; events = s .events; boxes = s .boxes; sides = s .sides; objects = s .objects; wants = s .wants; flags = s .flags; loaded = s .loaded; timers = s .timers; hand = s .hand }
 
 abbrev pub withMarks : List ℕ → State → State
-withMarks x s = record { cells = s .cells; marks = x; events = s .events; boxes = s .boxes; sides = s .sides; objects = s .objects; wants = s .wants; loaded = s .loaded; timers = s .timers; hand = s .hand }
+withMarks x s = record { cells = s .cells; marks = x; events = s .events; boxes = s .boxes; sides = s .sides; objects = s .objects; wants = s .wants; flags = s .flags; loaded = s .loaded; timers = s .timers; hand = s .hand }
 
 abbrev pub withEvents : Events → State → State
-withEvents x s = record { cells = s .cells; marks = s .marks; events = x; boxes = s .boxes; sides = s .sides; objects = s .objects; wants = s .wants; loaded = s .loaded; timers = s .timers; hand = s .hand }
+withEvents x s = record { cells = s .cells; marks = s .marks; events = x; boxes = s .boxes; sides = s .sides; objects = s .objects; wants = s .wants; flags = s .flags; loaded = s .loaded; timers = s .timers; hand = s .hand }
 
 abbrev pub withBoxes : List (List ℕ) → State → State
-withBoxes x s = record { cells = s .cells; marks = s .marks; events = s .events; boxes = x; sides = s .sides; objects = s .objects; wants = s .wants; loaded = s .loaded; timers = s .timers; hand = s .hand }
+withBoxes x s = record { cells = s .cells; marks = s .marks; events = s .events; boxes = x; sides = s .sides; objects = s .objects; wants = s .wants; flags = s .flags; loaded = s .loaded; timers = s .timers; hand = s .hand }
 
 abbrev pub withSides : List (List ℕ) → State → State
-withSides x s = record { cells = s .cells; marks = s .marks; events = s .events; boxes = s .boxes; sides = x; objects = s .objects; wants = s .wants; loaded = s .loaded; timers = s .timers; hand = s .hand }
+withSides x s = record { cells = s .cells; marks = s .marks; events = s .events; boxes = s .boxes; sides = x; objects = s .objects; wants = s .wants; flags = s .flags; loaded = s .loaded; timers = s .timers; hand = s .hand }
 
 abbrev pub withObjects : Objects → State → State
-withObjects x s = record { cells = s .cells; marks = s .marks; events = s .events; boxes = s .boxes; sides = s .sides; objects = x; wants = s .wants; loaded = s .loaded; timers = s .timers; hand = s .hand }
+withObjects x s = record { cells = s .cells; marks = s .marks; events = s .events; boxes = s .boxes; sides = s .sides; objects = x; wants = s .wants; flags = s .flags; loaded = s .loaded; timers = s .timers; hand = s .hand }
 
 abbrev pub withWants : List ℕ → State → State
-withWants x s = record { cells = s .cells; marks = s .marks; events = s .events; boxes = s .boxes; sides = s .sides; objects = s .objects; wants = x; loaded = s .loaded; timers = s .timers; hand = s .hand }
+withWants x s = record { cells = s .cells; marks = s .marks; events = s .events; boxes = s .boxes; sides = s .sides; objects = s .objects; wants = x; flags = s .flags; loaded = s .loaded; timers = s .timers; hand = s .hand }
+
+abbrev pub withFlags : (ℕ → Flags) → State → State
+withFlags x s = record { cells = s .cells; marks = s .marks; events = s .events; boxes = s .boxes; sides = s .sides; objects = s .objects; wants = s .wants; flags = x; loaded = s .loaded; timers = s .timers; hand = s .hand }
 
 abbrev pub withLoaded : List ℕ → State → State
-withLoaded x s = record { cells = s .cells; marks = s .marks; events = s .events; boxes = s .boxes; sides = s .sides; objects = s .objects; wants = s .wants; loaded = x; timers = s .timers; hand = s .hand }
+withLoaded x s = record { cells = s .cells; marks = s .marks; events = s .events; boxes = s .boxes; sides = s .sides; objects = s .objects; wants = s .wants; flags = s .flags; loaded = x; timers = s .timers; hand = s .hand }
 
 abbrev pub withTimers : Timers → State → State
-withTimers x s = record { cells = s .cells; marks = s .marks; events = s .events; boxes = s .boxes; sides = s .sides; objects = s .objects; wants = s .wants; loaded = s .loaded; timers = x; hand = s .hand }
+withTimers x s = record { cells = s .cells; marks = s .marks; events = s .events; boxes = s .boxes; sides = s .sides; objects = s .objects; wants = s .wants; flags = s .flags; loaded = s .loaded; timers = x; hand = s .hand }
 
 abbrev pub withHand : Hand → State → State
-withHand x s = record { cells = s .cells; marks = s .marks; events = s .events; boxes = s .boxes; sides = s .sides; objects = s .objects; wants = s .wants; loaded = s .loaded; timers = s .timers; hand = x }
+withHand x s = record { cells = s .cells; marks = s .marks; events = s .events; boxes = s .boxes; sides = s .sides; objects = s .objects; wants = s .wants; flags = s .flags; loaded = s .loaded; timers = s .timers; hand = x }
 
 abbrev pub withHolds : List ℕ → State → State
 withHolds x s = withEvents (record { signals = s .events .signals; sizes = s .events .sizes; holds = x }) s
@@ -155,3 +162,6 @@ withRests x s = withObjects (record { depths = s .objects .depths; rests = x; se
 
 abbrev pub withCounters : List ℕ → State → State
 withCounters x s = withTimers (record { owners = s .timers .owners; alarms = s .timers .alarms; counters = x; intervals = s .timers .intervals }) s
+
+abbrev pub withFlagsOf : ℕ → Flags → State → State
+withFlagsOf p isUp s = withFlags (λ x. cond (eqb x p) isUp (s .flags x)) s

@@ -7,7 +7,7 @@ use text::with_bytes;
 // As many as the longest name has, UNSUBSCRIBE, and one more, so that a space ends every name.
 pub const COLUMNS: usize = 12;
 
-const LAST: u8 = command::FLUSH;
+const LAST: u8 = command::FLAG;
 
 // Each name stands at its number, with spaces behind it. No command has the number 0.
 const NAMES: [[u8; COLUMNS]; LAST as usize + 1] = [
@@ -33,6 +33,7 @@ const NAMES: [[u8; COLUMNS]; LAST as usize + 1] = [
     *b"DEFER       ",
     *b"RECALL      ",
     *b"FLUSH       ",
+    *b"FLAG        ",
 ];
 
 // The name at a number, or at 0 where that has none.

@@ -41,3 +41,5 @@ pub const DEFER: u8 = 19;
 pub const RECALL: u8 = 20;
 
 pub const FLUSH: u8 = 21;
+
+pub const FLAG: u8 = 22;

@@ -26,6 +26,9 @@ pub const SIGNAL_PLACES: usize = 32;
 
 pub const ALL_SIGNAL_PLACES: usize = OBJECTS * SIGNAL_PLACES;
 
+// Each object has the flags 1 to 8.
+pub const FLAGS: usize = 8;
+
 pub const TIMERS: usize = 16;
 
 pub const BLOCKS: usize = 56;
@@ -46,18 +49,25 @@ pub const LARGE_BYTES: usize = 64;
 
 pub const LONGEST_CHART: usize = 5576;
 
-// A flat table: its rows, where their actions begin and how many there can be, its slots.
+// A flat table: its rows, where their actions begin and how many there can be, and where a row has its flag.
 pub const ROW_BYTES: usize = 24;
 
 pub const ACTIONS_IN_ROW: usize = 3;
 
 pub const MOST_ACTIONS: usize = 18;
 
+pub const FLAG_IN_ROW: usize = 21;
+
+// Four slots for plain charts, whose tables stand one behind the other in one area, and one for a guarded chart, whose table is an area.
 pub const SLOT_BYTES: usize = 16152;
 
-pub const SLOTS: usize = 4;
+pub const PLAIN_SLOTS: usize = 4;
 
-// What is lent and answered: a record, a reply, the three areas. The log has a line for each of the most steps of a DRAIN.
+pub const GUARDED_SLOT: usize = PLAIN_SLOTS;
+
+pub const SLOTS: usize = PLAIN_SLOTS + 1;
+
+// What is lent and answered: a record, a reply, the four areas. The log has a line for each of the most steps of a DRAIN.
 pub const RECORD_BYTES: usize = 72;
 
 // A reply ends with a handle.
@@ -67,7 +77,9 @@ pub const REPLY_BYTES: usize = 28;
 
 pub const PAYLOAD_AREA: usize = 1536;
 
-pub const TABLE_AREA: usize = SLOTS * SLOT_BYTES;
+pub const TABLE_AREA: usize = PLAIN_SLOTS * SLOT_BYTES;
+
+pub const GUARDED_AREA: usize = 32280;
 
 pub const MOST_STEPS: usize = 255;
 

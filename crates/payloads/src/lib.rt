@@ -59,8 +59,8 @@ fn new_in(
 ) -> Answered
     requires { ⌜ (b < blocks) × (size ≤ length (now payload)) × (length (now payloads) ≡ payloadBytes) × (cells pool ≡ changed handedOut (cells (k .pool)) b) ⌝ }
     requires { ⌜ (marks pool ≡ marksAfter (cells (k .pool)) (marks (k .pool)) (poolFor size) (At b)) × (mark ≡ markOf (marks pool) (poolFor size)) ⌝ }
-    ensures { λ r. ⌜ ((t l : List ℕ) → answered r (areas (now (payloads .exit)) t l)
-        ≡ newIn (At b) g size (now (payload .entry)) (stateOf k) (areas (now (payloads .entry)) t l)) ⌝ }
+    ensures { λ r. ⌜ ((t u l : List ℕ) → answered r (areas (now (payloads .exit)) t u l)
+        ≡ newIn (At b) g size (now (payload .entry)) (stateOf k) (areas (now (payloads .entry)) t u l)) ⌝ }
 {
     let n = wide(size);
     put_payload(b, &payload[0..n], payloads);
@@ -81,8 +81,8 @@ pub fn new(
     payloads: &mut [u8],
 ) -> Answered
     requires { ⌜ length (now payload) ≡ mostBytes ⌝ }
-    ensures { λ r. ⌜ ((t l : List ℕ) → answered r (areas (now (payloads .exit)) t l)
-        ≡ machine.new spoilt g size (now (payload .entry)) (stateOf k) (areas (now (payloads .entry)) t l)) ⌝ }
+    ensures { λ r. ⌜ ((t u l : List ℕ) → answered r (areas (now (payloads .exit)) t u l)
+        ≡ machine.new spoilt g size (now (payload .entry)) (stateOf k) (areas (now (payloads .entry)) t u l)) ⌝ }
 {
     let n = wide(size);
     let bad = payloads.len() != PAYLOAD_AREA;
@@ -122,8 +122,8 @@ fn payload_in<'a>(k: Kernel, b: usize, payloads: &'a [u8]) -> &'a [u8]
 // READ handle.
 pub fn read(k: Kernel, spoilt: bool, b: usize, generation: u32, payloads: &[u8]) -> Answered
     requires { ⌜ Good k ⌝ }
-    ensures { λ r. ⌜ ((t l : List ℕ) → answered r (areas (now (payloads .entry)) t l)
-        ≡ machine.read spoilt b generation (stateOf k) (areas (now (payloads .entry)) t l)) ⌝ }
+    ensures { λ r. ⌜ ((t u l : List ℕ) → answered r (areas (now (payloads .entry)) t u l)
+        ≡ machine.read spoilt b generation (stateOf k) (areas (now (payloads .entry)) t u l)) ⌝ }
 {
     let no = read_no(k, spoilt, b, generation, payloads);
     if no != 0 {

@@ -23,8 +23,8 @@ use state::Kernel;
 pub fn new_command(k: Kernel, record: &[u8], payloads: &mut [u8]) -> Answered
     requires { ⌜ Good k ⌝ }
     requires { ⌜ length (now «record») ≡ recordBytes ⌝ }
-    ensures { λ r. ⌜ ((d t l : List ℕ) → answered r (areas (now (payloads .exit)) t l)
-        ≡ command 3 (now («record» .entry)) d (stateOf k) (areas (now (payloads .entry)) t l)) ⌝ }
+    ensures { λ r. ⌜ ((d t u l : List ℕ) → answered r (areas (now (payloads .exit)) t u l)
+        ≡ command 3 (now («record» .entry)) d (stateOf k) (areas (now (payloads .entry)) t u l)) ⌝ }
 {
     super::new(
         k,
@@ -39,8 +39,8 @@ pub fn new_command(k: Kernel, record: &[u8], payloads: &mut [u8]) -> Answered
 // READ handle.
 pub fn read_command(k: Kernel, record: &[u8], payloads: &[u8]) -> Answered
     requires { ⌜ Good k ⌝ }
-    ensures { λ r. ⌜ ((d t l : List ℕ) → answered r (areas (now (payloads .entry)) t l)
-        ≡ command 17 (now («record» .entry)) d (stateOf k) (areas (now (payloads .entry)) t l)) ⌝ }
+    ensures { λ r. ⌜ ((d t u l : List ℕ) → answered r (areas (now (payloads .entry)) t u l)
+        ≡ command 17 (now («record» .entry)) d (stateOf k) (areas (now (payloads .entry)) t u l)) ⌝ }
 {
     super::read(
         k,

@@ -5,6 +5,7 @@ ghost use Rattle.machine.specs.Numbers.{recordBytes, slots};
 ghost use Rattle.state.specs.View.{Good};
 use kernel::Answered;
 use kernel::Kernel;
+use numbers::GUARDED_AREA;
 use numbers::LOG_AREA;
 use numbers::PAYLOAD_AREA;
 use numbers::RECORD_BYTES;
@@ -48,6 +49,7 @@ fn answer_load(
     folder: u8,
     payloads: &mut [u8],
     tables: &mut [u8],
+    guarded: &mut [u8],
     log: &mut [u8],
 ) -> Answered
     requires { ⌜ Good k ⌝ }
@@ -56,7 +58,7 @@ fn answer_load(
 {
     let mut chart = [0u8; CHART_BYTES];
     let n = read_chart(folder, slot, &mut chart);
-    kernel::command(k, record, &chart[..n], payloads, tables, log)
+    kernel::command(k, record, &chart[..n], payloads, tables, guarded, log)
 }
 
 // The slot whose chart a record asks for; one that there is not where it asks for none.
@@ -75,6 +77,7 @@ pub fn answer(
     folder: u8,
     payloads: &mut [u8],
     tables: &mut [u8],
+    guarded: &mut [u8],
     log: &mut [u8],
 ) -> Answered
     requires { ⌜ Good k ⌝ }
@@ -82,9 +85,9 @@ pub fn answer(
 {
     let slot = slot_of(record);
     if slot < SLOTS {
-        return answer_load(k, record, slot, folder, payloads, tables, log);
+        return answer_load(k, record, slot, folder, payloads, tables, guarded, log);
     }
-    kernel::command(k, record, &record[..0], payloads, tables, log)
+    kernel::command(k, record, &record[..0], payloads, tables, guarded, log)
 }
 
 // A piece of the trace: the first n bytes, a record of them unless the trace ends before. None at its end.
@@ -171,6 +174,7 @@ fn turn(
     replies: Replies,
     payloads: &mut [u8],
     tables: &mut [u8],
+    guarded: &mut [u8],
     log: &mut [u8],
 ) -> Run
     requires { ⌜ Good (run .kernel) ⌝ }
@@ -186,7 +190,7 @@ fn turn(
         return Run { left: 0, ..run };
     }
     let bytes = piece.bytes;
-    let answered = answer(k, &bytes[..n], folder, payloads, tables, log);
+    let answered = answer(k, &bytes[..n], folder, payloads, tables, guarded, log);
     let next = answered.kernel;
     let reply = answered.reply;
     let sent = write_reply(replies, run.number, bytes[0], reply);
@@ -204,6 +208,7 @@ fn play_on(
     replies: Replies,
     payloads: &mut [u8],
     tables: &mut [u8],
+    guarded: &mut [u8],
     log: &mut [u8],
 ) {
     let mut run = Run {
@@ -212,7 +217,7 @@ fn play_on(
         number: 0,
     };
     while 0 < run.left {
-        run = turn(run, folder, replies, payloads, tables, log);
+        run = turn(run, folder, replies, payloads, tables, guarded, log);
     }
 }
 
@@ -220,6 +225,15 @@ fn play_on(
 pub fn play(most: u64, folder: u8, replies: Replies) {
     let mut payloads = [0u8; PAYLOAD_AREA];
     let mut tables = [0u8; TABLE_AREA];
+    let mut guarded = [0u8; GUARDED_AREA];
     let mut log = [0u8; LOG_AREA];
-    play_on(most, folder, replies, &mut payloads, &mut tables, &mut log);
+    play_on(
+        most,
+        folder,
+        replies,
+        &mut payloads,
+        &mut tables,
+        &mut guarded,
+        &mut log,
+    );
 }

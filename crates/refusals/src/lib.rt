@@ -5,11 +5,12 @@ ghost use mathlib.Core.List.{[], _∷_};
 ghost use mathlib.Core.Path.{_≡_};
 ghost use lib.Dec.{eqb, leb};
 ghost use Rattle.machine.specs.Numbers as ranges;
-ghost use Rattle.machine.specs.Numbers.{mostAside, noBlock, noDepth, noMargin, noObject, noSide, noSignal, noSize, noSlot, noTimer};
+ghost use Rattle.machine.specs.Numbers.{mostAside, noBlock, noDepth, noFlag, noMargin, noObject, noSide, noSignal, noSize, noSlot, noTimer, noValue};
 ghost use Rattle.machine.specs.Reply as said;
 ghost use Rattle.machine.specs.Reply.{lowest};
 use numbers::BLOCKS;
 use numbers::FIRST_SIGNAL;
+use numbers::FLAGS;
 use numbers::LARGE_BYTES;
 use numbers::LAST_SIGNAL;
 use numbers::MOST_ASIDE;
@@ -59,12 +60,21 @@ fn outside(low: usize, high: usize, n: usize) -> bool
 }
 
 // LOAD.
-pub fn load_refusal(spoilt: bool, bad: bool, q: usize, busy: bool, used: bool) -> u8
-    ensures { λ r. ⌜ r ≡ lowest ((said.FORM, spoilt) ∷ (said.AREA, bad) ∷ (said.RANGE, noSlot q) ∷ (said.BUSY, busy) ∷ (said.TAKEN, used) ∷ []) ⌝ }
+pub fn load_refusal(
+    spoilt: bool,
+    bad: bool,
+    guarded: bool,
+    q: usize,
+    busy: bool,
+    used: bool,
+) -> u8
+    ensures { λ r. ⌜ r ≡ lowest ((said.FORM, spoilt) ∷ (said.AREA, bad) ∷ (said.AREA, guarded) ∷ (said.RANGE, noSlot q) ∷ (said.BUSY, busy)
+        ∷ (said.TAKEN, used) ∷ []) ⌝ }
 {
     let n = first(TAKEN, used, 0);
     let n = first(BUSY, busy, n);
     let n = first(RANGE, outside(0, LAST_SLOT, q), n);
+    let n = first(AREA, guarded, n);
     let n = first(AREA, bad, n);
     first(FORM, spoilt, n)
 }
@@ -73,6 +83,7 @@ pub fn load_refusal(spoilt: bool, bad: bool, q: usize, busy: bool, used: bool) -
 pub fn start_refusal(
     spoilt: bool,
     bad: bool,
+    guarded: bool,
     p: usize,
     q: usize,
     depth: usize,
@@ -81,8 +92,8 @@ pub fn start_refusal(
     started: bool,
     sound: bool,
 ) -> u8
-    ensures { λ r. ⌜ r ≡ lowest ((said.FORM, spoilt) ∷ (said.AREA, bad) ∷ (said.RANGE, noObject p) ∷ (said.RANGE, noSlot q)
-        ∷ (said.RANGE, noDepth depth) ∷ (said.BUSY, busy) ∷ (said.ABSENT, not loaded) ∷ (said.TAKEN, started) ∷ (said.TABLE, not sound) ∷ []) ⌝ }
+    ensures { λ r. ⌜ r ≡ lowest ((said.FORM, spoilt) ∷ (said.AREA, bad) ∷ (said.AREA, guarded) ∷ (said.RANGE, noObject p)
+        ∷ (said.RANGE, noSlot q) ∷ (said.RANGE, noDepth depth) ∷ (said.BUSY, busy) ∷ (said.ABSENT, not loaded) ∷ (said.TAKEN, started) ∷ (said.TABLE, not sound) ∷ []) ⌝ }
 {
     let n = first(TABLE, !sound, 0);
     let n = first(TAKEN, started, n);
@@ -91,7 +102,28 @@ pub fn start_refusal(
     let n = first(RANGE, outside(1, PLACES, depth), n);
     let n = first(RANGE, outside(0, LAST_SLOT, q), n);
     let n = first(RANGE, outside(1, OBJECTS, p), n);
+    let n = first(AREA, guarded, n);
     let n = first(AREA, bad, n);
+    first(FORM, spoilt, n)
+}
+
+// FLAG.
+pub fn flag_refusal(
+    spoilt: bool,
+    p: usize,
+    f: usize,
+    v: usize,
+    busy: bool,
+    started: bool,
+) -> u8
+    ensures { λ r. ⌜ r ≡ lowest ((said.FORM, spoilt) ∷ (said.RANGE, noObject p) ∷ (said.RANGE, noFlag f) ∷ (said.RANGE, noValue v)
+        ∷ (said.BUSY, busy) ∷ (said.ABSENT, not started) ∷ []) ⌝ }
+{
+    let n = first(ABSENT, !started, 0);
+    let n = first(BUSY, busy, n);
+    let n = first(RANGE, outside(0, 1, v), n);
+    let n = first(RANGE, outside(1, FLAGS, f), n);
+    let n = first(RANGE, outside(1, OBJECTS, p), n);
     first(FORM, spoilt, n)
 }
 
@@ -159,12 +191,21 @@ pub fn read_refusal(spoilt: bool, bad: bool, b: usize, stale: bool) -> u8
 }
 
 // NEXT.
-pub fn next_refusal(spoilt: bool, bad: bool, busy: bool, p: usize, sound: bool) -> u8
-    ensures { λ r. ⌜ r ≡ lowest ((said.FORM, spoilt) ∷ (said.AREA, bad) ∷ (said.BUSY, busy) ∷ (said.IDLE, eqb p 0) ∷ (said.TABLE, not sound) ∷ []) ⌝ }
+pub fn next_refusal(
+    spoilt: bool,
+    bad: bool,
+    guarded: bool,
+    busy: bool,
+    p: usize,
+    sound: bool,
+) -> u8
+    ensures { λ r. ⌜ r ≡ lowest ((said.FORM, spoilt) ∷ (said.AREA, bad) ∷ (said.AREA, guarded) ∷ (said.BUSY, busy) ∷ (said.IDLE, eqb p 0)
+        ∷ (said.TABLE, not sound) ∷ []) ⌝ }
 {
     let n = first(TABLE, !sound, 0);
     let n = first(IDLE, p == 0, n);
     let n = first(BUSY, busy, n);
+    let n = first(AREA, guarded, n);
     let n = first(AREA, bad, n);
     first(FORM, spoilt, n)
 }
@@ -208,11 +249,12 @@ pub fn disarm_refusal(spoilt: bool, t: usize) -> u8
 }
 
 // DRAIN.
-pub fn drain_refusal(spoilt: bool, tables: bool, log: bool, busy: bool) -> u8
-    ensures { λ r. ⌜ r ≡ lowest ((said.FORM, spoilt) ∷ (said.AREA, tables) ∷ (said.AREA, log) ∷ (said.BUSY, busy) ∷ []) ⌝ }
+pub fn drain_refusal(spoilt: bool, tables: bool, guarded: bool, log: bool, busy: bool) -> u8
+    ensures { λ r. ⌜ r ≡ lowest ((said.FORM, spoilt) ∷ (said.AREA, tables) ∷ (said.AREA, guarded) ∷ (said.AREA, log) ∷ (said.BUSY, busy) ∷ []) ⌝ }
 {
     let n = first(BUSY, busy, 0);
     let n = first(AREA, log, n);
+    let n = first(AREA, guarded, n);
     let n = first(AREA, tables, n);
     first(FORM, spoilt, n)
 }

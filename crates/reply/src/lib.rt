@@ -1,9 +1,11 @@
 // The 28 bytes of every reply.
 ghost use mathlib.Core.List.{_++_};
 ghost use mathlib.Core.Path.{_≡_};
-ghost use Prim.Native.Nat.{_≤_, _<_};
+ghost use Prim.Native.Nat.{ℕ, _≤_, _<_};
 ghost use lib.ListN.{length, getD, take};
+ghost use Rattle.chart.specs.Flat.{answerOf, flagAt, rowOf};
 ghost use Rattle.chart.specs.Numbers.{rowSize};
+ghost use Rattle.chart.specs.Step as nested;
 ghost use Rattle.machine.specs.Numbers.{handlePlace, mostBytes, signalPlaces};
 ghost use Rattle.machine.specs.Reply.{no, badChart, handle, replyOf};
 ghost use Rattle.machine.specs.Reply as said;
@@ -80,10 +82,11 @@ pub fn made(b: u8, generation: u32, mark: u8) -> [u8; REPLY_BYTES]
     with_handle(r, b, generation)
 }
 
-// The answer of START and NEXT: object p took the row with the signal g, for the event of a handle.
+// The answer of START and NEXT: object p took the row, which is that of an answer, with the signal g, for the event of a handle.
 pub fn ran(p: u8, g: u8, first: u8, generation: u32, row: &[u8]) -> [u8; REPLY_BYTES]
     requires { ⌜ (length (now row) ≡ rowSize) × (getD (now row) 1 0 ≤ 2) × (g < signalPlaces) ⌝ }
-    ensures { λ r. ⌜ r ≡ replyOf (said.ran p g first generation (now (row .entry))) ⌝ }
+    requires { ⌜ rowOf (flagAt (now row)) (answerOf (now row)) ≡ now row ⌝ }
+    ensures { λ r. ⌜ r ≡ replyOf (said.ran p g first generation (answerOf (now (row .entry)))) ⌝ }
 {
     let mut r = [0u8; REPLY_BYTES];
     copy(
@@ -93,6 +96,16 @@ pub fn ran(p: u8, g: u8, first: u8, generation: u32, row: &[u8]) -> [u8; REPLY_B
     r[OBJECT] = p;
     r[OUTCOME] = row[1] * 32 + g;
     r[COUNT] = row[2];
+    with_handle(r, first, generation)
+}
+
+// The answer of NEXT where the object ignores the signal, wherever it rests.
+pub fn ignored(p: u8, g: u8, first: u8, generation: u32) -> [u8; REPLY_BYTES]
+    ensures { λ r. ⌜ ((rest : ℕ) → r ≡ replyOf (said.ran p g first generation (nested.ignored rest))) ⌝ }
+{
+    let mut r = [0u8; REPLY_BYTES];
+    r[OBJECT] = p;
+    r[OUTCOME] = g;
     with_handle(r, first, generation)
 }
 

@@ -1,8 +1,9 @@
 -- How the struct is read as the machine's state, and what a good kernel is.
 use mathlib.Core.List.{List}
 use Prim.Native.Nat.{ℕ}
+use Rattle.chart.specs.Flags.{inWords}
 use Rattle.machine.specs.Inv.{Inv}
-use Rattle.machine.specs.Reply.{Areas, Answer}
+use Rattle.machine.specs.Reply.{Areas, Answer, both}
 use Rattle.machine.specs.State.{State}
 use Rattle.mail.specs.Entry.{handOf}
 use Rattle.mail.specs.View.{boxes}
@@ -19,6 +20,7 @@ stateOf k = record {
   sides = boxes (k .«side_places») (k .«side_heads») (k .«side_counts»);
   objects = record { depths = k .depths; rests = k .rests; seats = k .seats };
   wants = k .wants;
+  flags = inWords (k .flags);
   loaded = k .loaded;
   timers = record { owners = k .owners; alarms = k .alarms; counters = k .counters; intervals = k .intervals };
   hand = handOf (k .hand);
@@ -28,8 +30,8 @@ stateOf k = record {
 abbrev pub Good : Kernel → Type 0
 Good k = Inv (stateOf k)
 
-abbrev pub areas : List ℕ → List ℕ → List ℕ → Areas
-areas p t l = record { payloads = p; tables = t; log = l }
+abbrev pub areas : List ℕ → List ℕ → List ℕ → List ℕ → Areas
+areas p t g l = record { payloads = p; tables = both t g; log = l }
 
 -- What a command gave back, with the areas as it left them.
 unfoldable pub answered : Answered → Areas → Answer

@@ -8,6 +8,7 @@ use numbers::ALL_PLACES;
 use numbers::ALL_SIDE_PLACES;
 use numbers::ALL_SIGNAL_PLACES;
 use numbers::BLOCKS;
+use numbers::FLAGS;
 use numbers::OBJECTS;
 use numbers::REPLY_BYTES;
 use numbers::SIDE_QUEUES;
@@ -24,6 +25,7 @@ pub struct Kernel {
     pub places: [u16; ALL_PLACES],
     pub side_places: [u16; ALL_SIDE_PLACES],
     pub wants: [u8; ALL_SIGNAL_PLACES],
+    pub flags: [u64; FLAGS],
     pub signals: [u8; BLOCKS],
     pub sizes: [u8; BLOCKS],
     pub holds: [u8; BLOCKS],
@@ -56,6 +58,7 @@ pub fn fresh() -> Kernel
         places: [0; ALL_PLACES],
         side_places: [0; ALL_SIDE_PLACES],
         wants: [0; ALL_SIGNAL_PLACES],
+        flags: [0; FLAGS],
         signals: [0; BLOCKS],
         sizes: [0; BLOCKS],
         holds: [0; BLOCKS],

@@ -3,34 +3,39 @@ pub mod records;
 
 ghost use mathlib.Core.List.{List};
 ghost use mathlib.Core.Path.{_≡_};
-ghost use Prim.Native.Nat.{ℕ, _+_, _*_, _-_, _<_, _≤_};
+ghost use Prim.Native.Nat.{ℕ, _-_, _<_, _≤_};
 ghost use lib.ListN.{getD, length};
 ghost use Rattle.chart.specs.Flat.{place};
-ghost use Rattle.chart.specs.Numbers.{firstSignal, slotSize};
-ghost use Rattle.machine.specs.Numbers.{tableBytes, logBytes, objects};
-ghost use Rattle.machine.specs.Reply.{Areas, answer, done, ran};
+ghost use Rattle.chart.specs.Held.{answerAt, reading};
+ghost use Rattle.chart.specs.Numbers.{each, slotSize};
+ghost use Rattle.machine.specs.Numbers.{tableBytes, guardedBytes, logBytes, objects, slots, editionOf};
+ghost use Rattle.machine.specs.Reply.{Areas, answer, both, done, ran};
 ghost use Rattle.machine.specs.Run.{Fit};
 ghost use Rattle.machine.specs.State.{restOf, slotOf};
 ghost use Rattle.machine.specs.Steps as machine;
-ghost use Rattle.machine.specs.Steps.{drainDone, drainFrom, ended, frees, toRun};
+ghost use Rattle.machine.specs.Steps.{drainDone, drainFrom, ended, frees, signalOf, slotToRun, toRun};
 ghost use Rattle.mail.specs.Box.{one};
 ghost use Rattle.mail.specs.Entry.{handOf};
 ghost use Rattle.mail.specs.declared.Hand.the-variants.{Nothing};
-ghost use Rattle.drain.specs.Lent.{Looks, Runs};
+ghost use Rattle.drain.specs.Lent.{Lies, Looks, Runs};
 ghost use Rattle.state.specs.View.{answered, areas, Good, stateOf};
 ghost use Rattle.steps.specs.Step.{afterStep};
+use chart::Reading;
 use drain::Coming;
 use ground::one;
 use ground::wide;
 use numbers::FIRST_BYTES;
+use numbers::GUARDED_AREA;
 use numbers::LOG_AREA;
-use numbers::ROW_BYTES;
-use numbers::SLOT_BYTES;
+use numbers::SLOTS;
 use numbers::TABLE_AREA;
 use numbers::answer::TABLE;
 use refusals::drain_refusal;
 use refusals::end_refusal;
 use refusals::next_refusal;
+use slots::edition_of;
+use slots::slot_bad;
+use slots::table_of;
 use state::Answered;
 use state::Kernel;
 use state::NO_EVENT;
@@ -67,49 +72,71 @@ fn coming(k: Kernel, p: usize) -> Coming
     drain::look(&signals, &gens, e)
 }
 
-// Where in the tables the row of object p for a signal begins.
-fn row_at(k: Kernel, p: usize, signal: u8) -> usize
-    requires { ⌜ (1 ≤ p) × (p ≤ objects) × (1 ≤ restOf (stateOf k) p) × (firstSignal ≤ signal)
-        × (slotSize * slotOf (stateOf k) p + place (restOf (stateOf k) p) signal ≤ tableBytes) ⌝ }
-    ensures { λ r. ⌜ r ≡ slotSize * slotOf (stateOf k) p + place (restOf (stateOf k) p) signal ⌝ }
+// The rows of object p for the signal of the event that comes, read in the table of its slot.
+fn found_in(k: Kernel, p: usize, signal: u8, table: &[u8]) -> Reading
+    requires { ⌜ (1 ≤ p) × (p ≤ objects) × (p ≡ toRun (stateOf k)) × Fit (stateOf k) × (signal ≡ signalOf (stateOf k) (machine.coming (stateOf k))) ⌝ }
+    requires { ⌜ slotSize (editionOf (slotToRun (stateOf k))) ≤ length (now table) ⌝ }
+    ensures { λ r. ⌜ let s = stateOf k in let e = editionOf (slotToRun s) in
+        r ≡ reading e (s .flags p) (now (table .entry)) (place e (restOf s p) signal 0) (each e) ⌝ }
 {
     let rests = k.rests;
     let seats = k.seats;
-    SLOT_BYTES * wide(seats[p - 1]) + chart::row_place(rests[p - 1], signal)
+    let flags = k.flags;
+    let edition = edition_of(wide(seats[p - 1]));
+    chart::find_row(edition, table, rests[p - 1], signal, &flags, p)
 }
 
-// Object p takes a row with the event that comes.
-fn next_done(k: Kernel, p: usize, l: Coming, row: &[u8]) -> Answered
+// Object p takes what was found in a table for the event that comes.
+fn next_done(k: Kernel, p: usize, l: Coming, table: &[u8], found: Reading) -> Answered
     requires { ⌜ (1 ≤ p) × (p ≤ objects) × (0 < getD (k .counts) (p - 1) 0) ⌝ }
-    requires { ⌜ Runs p l (now row) ⌝ }
-    ensures { λ r. ⌜ ((z : Areas) → answered r z ≡
-        answer (afterStep (stateOf k) p (getD (now (row .entry)) 0 0)) (ran p (l .signal) (l .first) (l .generation) (now (row .entry))) z) ⌝ }
+    requires { ⌜ Runs p l × Lies (now table) found ⌝ }
+    ensures { λ r. ⌜ ((z : Areas) → let a = answerAt (now (table .entry)) (restOf (stateOf k) p) found in
+        answered r z ≡ answer (afterStep (stateOf k) p (a .next)) (ran p (l .signal) (l .first) (l .generation) a) z) ⌝ }
 {
+    let rests = k.rests;
     Answered {
-        kernel: step(k, p, row[0]),
-        reply: drain::answer(p, l, row),
+        kernel: step(
+            k,
+            p,
+            drain::next_rest(table, found, rests[p - 1]),
+        ),
+        reply: drain::answer(p, l, table, found),
     }
 }
 
-// NEXT. The row is tested last, once there is an event that it is for.
-pub fn next(k: Kernel, spoilt: bool, tables: &[u8]) -> Answered
+// The slot of the object that is to run; one that there is not where none is.
+fn slot_to_run(k: Kernel, p: usize) -> usize
+    ensures { λ r. ⌜ (p ≡ 0 → r ≡ slots) × ((p ≡ 0 → ⊥) → r ≡ slotOf (stateOf k) p) ⌝ }
+{
+    if p == 0 {
+        return SLOTS;
+    }
+    let seats = k.seats;
+    wide(seats[p - 1])
+}
+
+// NEXT. The rows are read last, once there is an event that they are for.
+pub fn next(k: Kernel, spoilt: bool, tables: &[u8], guarded: &[u8]) -> Answered
     requires { ⌜ Good k ⌝ }
-    ensures { λ r. ⌜ ((p l : List ℕ) → answered r (areas p (now (tables .entry)) l) ≡ machine.next spoilt (stateOf k) (areas p (now (tables .entry)) l)) ⌝ }
+    ensures { λ r. ⌜ ((p l : List ℕ) → answered r (areas p (now (tables .entry)) (now (guarded .entry)) l)
+        ≡ machine.next spoilt (stateOf k) (areas p (now (tables .entry)) (now (guarded .entry)) l)) ⌝ }
 {
     let counts = k.counts;
     let p = mail::highest(&counts);
+    let slot = slot_to_run(k, p);
     let bad = tables.len() != TABLE_AREA;
-    let no = next_refusal(spoilt, bad, is_open(k.hand), p, true);
+    let bad_slot = slot_bad(guarded, slot);
+    let no = next_refusal(spoilt, bad, bad_slot, is_open(k.hand), p, true);
     if no != 0 {
         return refuse(k, no);
     }
     let l = coming(k, p);
-    let at = row_at(k, p, l.signal);
-    let row = &tables[at..at + ROW_BYTES];
-    if !chart::sound(row) {
+    let table = table_of(tables, guarded, slot);
+    let found = found_in(k, p, l.signal, table);
+    if !drain::is_sound(found) {
         return refuse(k, TABLE);
     }
-    next_done(k, p, l, row)
+    next_done(k, p, l, table, found)
 }
 
 // The event in hand is let go.
@@ -140,11 +167,17 @@ pub fn end(k: Kernel, spoilt: bool) -> Answered
 }
 
 // The steps of DRAIN over arrays of their own; then all their blocks are let go at once.
-fn drain_done(mut k: Kernel, budget: usize, tables: &[u8], log: &mut [u8]) -> Answered
+fn drain_done(
+    mut k: Kernel,
+    budget: usize,
+    tables: &[u8],
+    guarded: &[u8],
+    log: &mut [u8],
+) -> Answered
     requires { ⌜ Good k × (handOf (k .hand) ≡ Nothing) × (budget < 256) ⌝ }
-    requires { ⌜ (length (now tables) ≡ tableBytes) × (length (now log) ≡ logBytes) ⌝ }
-    ensures { λ r. ⌜ ((p : List ℕ) → answered r (areas p (now (tables .entry)) (now (log .exit)))
-        ≡ drainDone budget (drainFrom budget 0 (stateOf k) (now (tables .entry)) (now (log .entry))) (areas p (now (tables .entry)) (now (log .entry)))) ⌝ }
+    requires { ⌜ (length (now tables) ≡ tableBytes) × (length (now guarded) ≡ guardedBytes) × (length (now log) ≡ logBytes) ⌝ }
+    ensures { λ r. ⌜ ((p : List ℕ) → answered r (areas p (now (tables .entry)) (now (guarded .entry)) (now (log .exit)))
+        ≡ drainDone budget (drainFrom budget 0 (stateOf k) (both (now (tables .entry)) (now (guarded .entry))) (now (log .entry))) (areas p (now (tables .entry)) (now (guarded .entry)) (now (log .entry)))) ⌝ }
 {
     let places = k.places;
     let mut heads = k.heads;
@@ -153,6 +186,7 @@ fn drain_done(mut k: Kernel, budget: usize, tables: &[u8], log: &mut [u8]) -> An
     let seats = k.seats;
     let signals = k.signals;
     let gens = pool::generations(k.pool);
+    let flags = k.flags;
     let mut times = [0u8; FIRST_BYTES];
     let n = drain::run(
         &places,
@@ -162,8 +196,10 @@ fn drain_done(mut k: Kernel, budget: usize, tables: &[u8], log: &mut [u8]) -> An
         &seats,
         &signals,
         &gens,
+        &flags,
         &mut times,
         tables,
+        guarded,
         log,
         budget,
     );
@@ -180,16 +216,30 @@ fn drain_done(mut k: Kernel, budget: usize, tables: &[u8], log: &mut [u8]) -> An
 }
 
 // DRAIN budget.
-pub fn drain(k: Kernel, spoilt: bool, budget: usize, tables: &[u8], log: &mut [u8]) -> Answered
+pub fn drain(
+    k: Kernel,
+    spoilt: bool,
+    budget: usize,
+    tables: &[u8],
+    guarded: &[u8],
+    log: &mut [u8],
+) -> Answered
     requires { ⌜ Good k × (budget < 256) ⌝ }
-    ensures { λ r. ⌜ ((p : List ℕ) → answered r (areas p (now (tables .entry)) (now (log .exit)))
-        ≡ machine.drain spoilt budget (stateOf k) (areas p (now (tables .entry)) (now (log .entry)))) ⌝ }
+    ensures { λ r. ⌜ ((p : List ℕ) → answered r (areas p (now (tables .entry)) (now (guarded .entry)) (now (log .exit)))
+        ≡ machine.drain spoilt budget (stateOf k) (areas p (now (tables .entry)) (now (guarded .entry)) (now (log .entry)))) ⌝ }
 {
     let bad_tables = tables.len() != TABLE_AREA;
+    let bad_guarded = guarded.len() != GUARDED_AREA;
     let bad_log = log.len() != LOG_AREA;
-    let no = drain_refusal(spoilt, bad_tables, bad_log, is_open(k.hand));
+    let no = drain_refusal(
+        spoilt,
+        bad_tables,
+        bad_guarded,
+        bad_log,
+        is_open(k.hand),
+    );
     if no != 0 {
         return refuse(k, no);
     }
-    drain_done(k, budget, tables, log)
+    drain_done(k, budget, tables, guarded, log)
 }

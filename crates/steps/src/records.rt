@@ -11,12 +11,12 @@ use state::Answered;
 use state::Kernel;
 
 // NEXT.
-pub fn next_command(k: Kernel, record: &[u8], tables: &[u8]) -> Answered
+pub fn next_command(k: Kernel, record: &[u8], tables: &[u8], guarded: &[u8]) -> Answered
     requires { ⌜ Good k ⌝ }
-    ensures { λ r. ⌜ ((d p l : List ℕ) → answered r (areas p (now (tables .entry)) l)
-        ≡ command 12 (now («record» .entry)) d (stateOf k) (areas p (now (tables .entry)) l)) ⌝ }
+    ensures { λ r. ⌜ ((d p l : List ℕ) → answered r (areas p (now (tables .entry)) (now (guarded .entry)) l)
+        ≡ command 12 (now («record» .entry)) d (stateOf k) (areas p (now (tables .entry)) (now (guarded .entry)) l)) ⌝ }
 {
-    super::next(k, spoilt(record, 0), tables)
+    super::next(k, spoilt(record, 0), tables, guarded)
 }
 
 // END.
@@ -28,10 +28,23 @@ pub fn end_command(k: Kernel, record: &[u8]) -> Answered
 }
 
 // DRAIN budget.
-pub fn drain_command(k: Kernel, record: &[u8], tables: &[u8], log: &mut [u8]) -> Answered
+pub fn drain_command(
+    k: Kernel,
+    record: &[u8],
+    tables: &[u8],
+    guarded: &[u8],
+    log: &mut [u8],
+) -> Answered
     requires { ⌜ Good k ⌝ }
-    ensures { λ r. ⌜ ((d p : List ℕ) → answered r (areas p (now (tables .entry)) (now (log .exit)))
-        ≡ command 18 (now («record» .entry)) d (stateOf k) (areas p (now (tables .entry)) (now (log .entry)))) ⌝ }
+    ensures { λ r. ⌜ ((d p : List ℕ) → answered r (areas p (now (tables .entry)) (now (guarded .entry)) (now (log .exit)))
+        ≡ command 18 (now («record» .entry)) d (stateOf k) (areas p (now (tables .entry)) (now (guarded .entry)) (now (log .entry)))) ⌝ }
 {
-    super::drain(k, spoilt(record, 1), arg(record, 1), tables, log)
+    super::drain(
+        k,
+        spoilt(record, 1),
+        arg(record, 1),
+        tables,
+        guarded,
+        log,
+    )
 }

@@ -7,8 +7,8 @@ use lib.Dec.{eqb, ltb}
 use lib.ListN.{length, getD}
 use Rattle.ground.specs.Range.{every}
 use Rattle.machine.specs.Machine.{answerTo}
-use Rattle.machine.specs.Numbers.{payloadBytes, tableBytes}
-use Rattle.machine.specs.Reply.{Areas, Answer}
+use Rattle.machine.specs.Numbers.{payloadBytes, tableBytes, guardedBytes}
+use Rattle.machine.specs.Reply.{Areas, Answer, BothTables}
 use Rattle.machine.specs.State.{State, freshState}
 
 unfoldable pub areBytes : List ℕ → Bool
@@ -43,7 +43,10 @@ abbrev pub payloadArea : Area
 payloadArea = record { of = λ z. z .payloads; size = payloadBytes }
 
 abbrev pub tableArea : Area
-tableArea = record { of = λ z. z .tables; size = tableBytes }
+tableArea = record { of = λ z. z .tables .plain; size = tableBytes }
+
+abbrev pub guardedArea : Area
+guardedArea = record { of = λ z. z .tables .guarded; size = guardedBytes }
 
 -- The bytes that the last call which was lent the area with its length left in it; as long as there was none, the bytes `first`.
 unfoldable pub left : Area → List ℕ → Story → List ℕ
@@ -55,3 +58,10 @@ left a first (then h c) = cond (eqb (length (a .of (c .areas))) (a .size)) (a .o
 unfoldable pub OnlyKernel : Area → List ℕ → Story → Type 0
 OnlyKernel a first fresh = Unit {0}
 OnlyKernel a first (then h c) = OnlyKernel a first h × (length (a .of (c .areas)) ≡ a .size → a .of (c .areas) ≡ left a first h)
+
+-- Nobody but the kernel writes to the tables, neither to those of the plain slots nor to the guarded one; what is left in them.
+abbrev pub OnlyKernelTables : BothTables → Story → Type 0
+OnlyKernelTables first h = OnlyKernel tableArea (first .plain) h × OnlyKernel guardedArea (first .guarded) h
+
+abbrev pub leftTables : BothTables → Story → BothTables
+leftTables first h = record { plain = left tableArea (first .plain) h; guarded = left guardedArea (first .guarded) h }

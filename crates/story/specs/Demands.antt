@@ -4,7 +4,8 @@ use mathlib.Core.Bool.{true, false, cond, _&&_}
 use mathlib.Core.List.{List, _∷_}
 use mathlib.Core.Logic.{_↔_, _⊎_}
 use mathlib.Core.Path.{_≡_}
-use Prim.Native.Nat.{ℕ, _+_, _*_, _-_, _≤_, _<_}
+use Prim.Native.Nat.{ℕ, _+_, _-_, _≤_, _<_}
+use lib.Dec.{eqb}
 use lib.ListN.{length, getD, take, drop, replicate}
 use Rattle.ground.specs.Bytes.{padded}
 use Rattle.chart.specs.Chart.{classOf, leaf, states}
@@ -13,19 +14,20 @@ use Rattle.chart.specs.Step.{start}
 use Rattle.pool.specs.Cell.{live, isFree, isRetired, generationOf, lastGeneration, back}
 use Rattle.pool.specs.Laws.{Lowest}
 use Rattle.pool.specs.Row.{poolFor}
-use Rattle.machine.specs.Charts.{slotUsed}
+use Rattle.machine.specs.Charts.{slotTable, slotUsed}
 use Rattle.machine.specs.Inv.{isLive}
 use Rattle.machine.specs.Machine.{partOf}
-use Rattle.machine.specs.Numbers.{objects, blocks, slots, replyBytes, tableBytes, capacity, placeOf}
-use Rattle.machine.specs.Reply.{DONE, STALE, TABLE}
+use Rattle.machine.specs.Numbers.{objects, blocks, slots, guardedSlot, editionOf, replyBytes, tableBytes, guardedBytes, capacity, placeOf}
+use Rattle.machine.specs.Reply.{DONE, STALE, TABLE, BothTables}
 use Rattle.machine.specs.State.{sizeIn, restOf, slotOf, started, isLoaded, isOpen}
-use Rattle.story.specs.Calls.{Call, Story, fresh, then, kernel, answerIn, payloadArea, tableArea, left, OnlyKernel}
-use Rattle.story.specs.Table.{LOAD, START, NEW, NEXT, READ, DRAIN, DEFER, RECALL, FLUSH}
+use Rattle.story.specs.Calls.{Call, Story, fresh, then, kernel, answerIn, payloadArea, left, OnlyKernel, leftTables, OnlyKernelTables}
+use Rattle.story.specs.Table.{LOAD, START, NEW, NEXT, READ, DRAIN, DEFER, RECALL, FLUSH, FLAG}
 use Rattle.story.specs.Terms.{argument, reply, number, object, value₁, value₂, event, generation, Did, appliesTo, chartIn, givenTo, cell, refer, Counts, LastGoes, NewGoes}
 use Rattle.story.specs.Terms.{nextCall, steps, logLine, says, signalTaken, nested, Unchanged, Takes, Drains, Holds}
 use Rattle.story.specs.Terms.{side, Defers, Recalls, FindsNone, Flushes, Lives}
 use Rattle.story.specs.Terms.{count, mark, Smallest}
 use Rattle.story.specs.Terms.{GoesOn, Names}
+use Rattle.story.specs.Terms.{isUp, Flags}
 
 -- ## Demand 1
 -- "Any command record, chart and lent area, in any order of calls from a fresh start, gets an answer and never a trap."
@@ -47,7 +49,10 @@ Untouched = (h : Story) (c : Call) → 0 < number h c → Unchanged h c
 abbrev pub Lengths : Type 0
 Lengths =
     (h : Story) (c : Call) → let z = answerIn h c .areas in
-    (length (z .payloads) ≡ length (c .areas .payloads)) × (length (z .tables) ≡ length (c .areas .tables)) × (length (z .log) ≡ length (c .areas .log))
+    (length (z .payloads) ≡ length (c .areas .payloads))
+    × (length (z .tables .plain) ≡ length (c .areas .tables .plain))
+    × (length (z .tables .guarded) ≡ length (c .areas .tables .guarded))
+    × (length (z .log) ≡ length (c .areas .log))
 
 -- ## Demand 2
 -- "A block is free, new, or counted by mailbox entries, holds and the step in hand;", and by side entries since request 3 of document 02;
@@ -153,27 +158,43 @@ OldRefused =
 abbrev pub StaysRetired : Type 0
 StaysRetired = (h : Story) (c : Call) (b : ℕ) → isRetired (cell h b) ≡ true → cell (then h c) b ≡ cell h b
 
+-- ## Document 02, request 8, "charts with conditions"
+-- "FLAG p, flag, 0 or 1 clears or sets one flag, value 1 if it changed", and does nothing else.
+abbrev pub Flagged : Type 0
+Flagged = (h : Story) (c : Call) → Did FLAG h c → Flags h c (argument c 1) (argument c 2) (eqb (argument c 3) 1)
+
+-- "All flags are down at START."
+abbrev pub StartsDown : Type 0
+StartsDown = (h : Story) (c : Call) → Did START h c → (f : ℕ) → isUp (then h c) (argument c 1) f ≡ false
+
+-- Nothing else changes a flag.
+abbrev pub OnlyFlag : Type 0
+OnlyFlag =
+    (h : Story) (c : Call) (p f : ℕ) → (isUp (then h c) p f ≡ isUp h p f → ⊥) →
+    (argument c 1 ≡ p) × ((Did FLAG h c × (argument c 2 ≡ f)) ⊎ Did START h c)
+
 -- ## Demand 3, "as long as nobody but the kernel writes to the tables"
--- Each loaded slot has the chart of its last LOAD; its table agrees with it, flat and nested, "over any sequence of signals".
+-- Each loaded slot has the chart of its last LOAD; its table agrees with it, flat and nested, "over any sequence of signals and FLAG
+-- commands" (document 02, request 8), by the slot's edition.
 abbrev pub Tables : Type 0
 Tables =
-    (h : Story) (first : List ℕ) → OnlyKernel tableArea first h → (q : ℕ) → q < slots → isLoaded (kernel h) q ≡ true →
-    Holds (chartIn h q) (take slotSize (drop (slotSize * q) (left tableArea first h)))
+    (h : Story) (first : BothTables) → OnlyKernelTables first h → (q : ℕ) → q < slots → isLoaded (kernel h) q ≡ true →
+    Holds (editionOf q) (chartIn h q) (take (slotSize (editionOf q)) (slotTable (leftTables first h) q))
 
--- START answers the nested `start`, NEXT the nested `step` from where its object rests, and so does every step of DRAIN.
+-- START answers the nested `start`, NEXT the nested `step` from where its object rests with its flags, and so does every step of DRAIN.
 abbrev pub Starts : Type 0
 Starts =
-    (h : Story) (c : Call) (first : List ℕ) → OnlyKernel tableArea first (then h c) → Did START h c → let a = start (chartIn h (argument c 2)) in
+    (h : Story) (c : Call) (first : BothTables) → OnlyKernelTables first (then h c) → Did START h c → let a = start (chartIn h (argument c 2)) in
     (reply h c ≡ says (argument c 1) 0 0 0 a) × (restOf (kernel (then h c)) (argument c 1) ≡ a .next)
 
 abbrev pub Nexts : Type 0
 Nexts =
-    (h : Story) (c : Call) (first : List ℕ) → OnlyKernel tableArea first (then h c) → Did NEXT h c →
+    (h : Story) (c : Call) (first : BothTables) → OnlyKernelTables first (then h c) → Did NEXT h c →
     (reply h c ≡ says (object h c) (signalTaken h c) (event h c) (generation h c) (nested h c)) × (restOf (kernel (then h c)) (object h c) ≡ nested h c .next)
 
 abbrev pub DrainSteps : Type 0
 DrainSteps =
-    (h : Story) (c : Call) (first : List ℕ) → OnlyKernel tableArea first (then h c) → Did DRAIN h c → (i : ℕ) → i < value₁ h c →
+    (h : Story) (c : Call) (first : BothTables) → OnlyKernelTables first (then h c) → Did DRAIN h c → (i : ℕ) → i < value₁ h c →
     let t = steps h c i in let n = nextCall c in
     logLine i (answerIn h c .areas .log) ≡ says (object t n) (signalTaken t n) (event t n) (generation t n) (nested t n)
 
@@ -186,7 +207,7 @@ Rests =
 -- Document 02, request 1, "an object rested in a parent state": from now on every started object rests in a leaf of its slot's chart.
 abbrev pub RestsInLeaf : Type 0
 RestsInLeaf =
-    (h : Story) (first : List ℕ) → OnlyKernel tableArea first h → (p : ℕ) → 1 ≤ p → started (kernel h) p ≡ true →
+    (h : Story) (first : BothTables) → OnlyKernelTables first h → (p : ℕ) → 1 ≤ p → started (kernel h) p ≡ true →
     leaf (chartIn h (slotOf (kernel h) p)) (restOf (kernel h) p) ≡ true
 
 -- A started object stays so, on the chart that its slot had.
@@ -197,13 +218,14 @@ Seated =
 
 -- No row is unsound where only the kernel writes to the tables: TABLE is answered, and DRAIN stops at a row, only where others wrote to them.
 abbrev pub TableNever : Type 0
-TableNever = (h : Story) (c : Call) (first : List ℕ) → OnlyKernel tableArea first (then h c) → (number h c ≡ TABLE → ⊥) × (Did DRAIN h c → value₂ h c ≡ 2 → ⊥)
+TableNever = (h : Story) (c : Call) (first : BothTables) → OnlyKernelTables first (then h c) → (number h c ≡ TABLE → ⊥) × (Did DRAIN h c → value₂ h c ≡ 2 → ⊥)
 
--- "No accepted chart is turned away."
+-- "No accepted chart is turned away": accepted "by the check of the slot's own edition, and for slot 4 both tables must have their length".
 abbrev pub Loads : Type 0
 Loads =
-    (h : Story) (c : Call) (q : ℕ) → c .command ≡ LOAD ∷ q ∷ replicate 70 0 → classOf (c .chart) ≡ 0 → length (c .areas .tables) ≡ tableBytes →
-    q < slots → isOpen (kernel h .hand) ≡ false → slotUsed (kernel h) q objects ≡ false →
+    (h : Story) (c : Call) (q : ℕ) → c .command ≡ LOAD ∷ q ∷ replicate 70 0 → classOf (editionOf q) (c .chart) ≡ 0 →
+    length (c .areas .tables .plain) ≡ tableBytes → (q ≡ guardedSlot → length (c .areas .tables .guarded) ≡ guardedBytes) → q < slots →
+    isOpen (kernel h .hand) ≡ false → slotUsed (kernel h) q objects ≡ false →
     (number h c ≡ DONE) × (value₁ h c ≡ states (c .chart)) × (isLoaded (kernel (then h c)) q ≡ true)
 
 -- ## Payloads: as long as nobody but the kernel writes to them, a live block has what its NEW gave, then zeros, and READ hands it back.

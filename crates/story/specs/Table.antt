@@ -8,17 +8,17 @@ use lib.ListN.{length, getD}
 use Rattle.ground.specs.Bytes.{blank}
 use Rattle.ground.specs.Range.{every}
 use Rattle.chart.specs.Chart.{classOf}
-use Rattle.chart.specs.Flat.{sound}
+use Rattle.chart.specs.Flat.{allRead, startSound}
 use Rattle.mail.specs.Box.{queued}
 use Rattle.pool.specs.Cell.{isFree, isNew}
 use Rattle.pool.specs.Row.{at, poolFor, staleAt}
 use Rattle.machine.specs.Aside.{isTimer}
 use Rattle.machine.specs.Charts.{startRow}
 use Rattle.machine.specs.Machine.{generation}
-use Rattle.machine.specs.Numbers.{objects, payloadBytes, tableBytes, logBytes, recordBytes, mostHolds, mostAside, outside}
+use Rattle.machine.specs.Numbers.{objects, guardedSlot, editionOf, payloadBytes, tableBytes, guardedBytes, logBytes, recordBytes, mostHolds, mostAside, outside}
 use Rattle.machine.specs.Reply.{FORM, AREA, RANGE, BUSY, NOSTEP, IDLE, STALE, ABSENT, TAKEN, FULL, DRY, HOLDS, INUSE, CHART, TABLE, Areas}
 use Rattle.machine.specs.State.{State, signalIn, holdsOn, sideOf, slotOf, started, room, isLoaded, subscribed, armed, isOpen}
-use Rattle.machine.specs.Steps.{nextRow}
+use Rattle.machine.specs.Steps.{toRun, slotToRun, nextRows}
 
 -- The commands by name.
 abbrev pub LOAD : ℕ
@@ -84,6 +84,9 @@ RECALL = 20
 abbrev pub FLUSH : ℕ
 FLUSH = 21
 
+abbrev pub FLAG : ℕ
+FLAG = 22
+
 -- What an argument byte is, and the numbers that it may be: n is not one of them.
 pub data Argument : Type 0 where
   slot : Argument
@@ -95,10 +98,12 @@ pub data Argument : Type 0 where
   margin : Argument
   timer : Argument
   side : Argument
+  flag : Argument
+  value : Argument
   any : Argument
 
 unfoldable pub isOutside : Argument → ℕ → Bool
-isOutside slot n = outside 0 3 n
+isOutside slot n = outside 0 4 n
 isOutside object n = outside 1 16 n
 isOutside depth n = outside 1 16 n
 isOutside signal n = outside 4 31 n
@@ -107,6 +112,8 @@ isOutside block n = outside 0 55 n
 isOutside margin n = outside 0 15 n
 isOutside timer n = outside 0 15 n
 isOutside side n = outside 0 7 n
+isOutside flag n = outside 1 8 n
+isOutside value n = outside 0 1 n
 isOutside any n = false
 
 -- The arguments of command n, in order, from byte 1 of the record on. Any: the bytes of a generation, of ticks and of an interval, a budget.
@@ -135,6 +142,7 @@ arguments =
     ∷ (DEFER, side ∷ [])
     ∷ (RECALL, side ∷ object ∷ [])
     ∷ (FLUSH, side ∷ [])
+    ∷ (FLAG, object ∷ flag ∷ value ∷ [])
     ∷ []) []
 
 -- Of the arguments l of a record r, from byte k on: one is outside its numbers; and the byte that is the object, 0 where none is.
@@ -152,6 +160,8 @@ isObject block = false
 isObject margin = false
 isObject timer = false
 isObject side = false
+isObject flag = false
+isObject value = false
 isObject any = false
 
 unfoldable pub objectIn : List ℕ → ℕ → List Argument → ℕ
@@ -197,12 +207,27 @@ module _ (n : ℕ) (s : State) (r d : List ℕ) (z : Areas) where
       (not (blank r 3 8) || not (ltb 64 (byte 2)) && not (blank r (8 + byte 2) recordBytes))
       (not (blank r (1 + length (arguments n)) recordBytes))
 
+  -- the guarded table is used: by LOAD and START on its slot, NEXT if the highest object with mail is on it, and always by DRAIN
+  unfoldable pub usesGuarded : Bool
+  usesGuarded =
+      is (LOAD ∷ []) && eqb (byte 1) guardedSlot
+      || (is (START ∷ []) && eqb (byte 2) guardedSlot
+      || (is (NEXT ∷ []) && (not (eqb (toRun s) 0) && eqb (slotToRun s) guardedSlot)
+      || is (DRAIN ∷ [])))
+
   -- an area that the command uses is not of its length
   unfoldable pub otherLength : Bool
   otherLength =
       is (NEW ∷ READ ∷ []) && not (eqb (length (z .payloads)) payloadBytes)
-      || (is (LOAD ∷ START ∷ NEXT ∷ DRAIN ∷ []) && not (eqb (length (z .tables)) tableBytes)
-      || is (DRAIN ∷ []) && not (eqb (length (z .log)) logBytes))
+      || (is (LOAD ∷ START ∷ NEXT ∷ DRAIN ∷ []) && not (eqb (length (z .tables .plain)) tableBytes)
+      || (usesGuarded && not (eqb (length (z .tables .guarded)) guardedBytes)
+      || is (DRAIN ∷ []) && not (eqb (length (z .log)) logBytes)))
+
+  -- a row that the command reads is not sound
+  unfoldable pub unsound : Bool
+  unsound =
+      is (START ∷ []) && not (startSound (editionOf (byte 2)) (startRow (z .tables) (byte 2)))
+      || is (NEXT ∷ []) && not (allRead (editionOf (slotToRun s)) (s .flags (toRun s)) (nextRows s (z .tables)))
 
   -- an object uses the slot; a subscriber to the event's signal has no place
   unfoldable pub slotInUse : Bool
@@ -221,14 +246,14 @@ module _ (n : ℕ) (s : State) (r d : List ℕ) (z : Areas) where
   -- The table: number and "exactly when".
   unfoldable pub tableOf : List (ℕ × Bool)
   tableOf =
-      (FORM, not (eqb (length r) recordBytes) || (outside LOAD FLUSH n || unusedByte))
+      (FORM, not (eqb (length r) recordBytes) || (outside LOAD FLAG n || unusedByte))
       ∷ (AREA, otherLength)
       ∷ (RANGE, someOutside r 1 (arguments n) || is (ARM ∷ []) && eqb (byte 4 + 256 * byte 5) 0)
-      ∷ (BUSY, is (LOAD ∷ START ∷ NEXT ∷ DRAIN ∷ []) && isOpen (s .hand))
+      ∷ (BUSY, is (LOAD ∷ START ∷ NEXT ∷ DRAIN ∷ FLAG ∷ []) && isOpen (s .hand))
       ∷ (NOSTEP, is (END ∷ DEFER ∷ []) && not (isOpen (s .hand)))
       ∷ (IDLE, is (NEXT ∷ []) && eqb (queued (s .boxes)) 0)
       ∷ (STALE, hasHandle && staleAt (s .cells) (byte 1) (generation r) || is (DEFER ∷ []) && isTimer (s .hand))
-      ∷ (ABSENT, is (POST ∷ POSTFRONT ∷ SUBSCRIBE ∷ UNSUBSCRIBE ∷ ARM ∷ RECALL ∷ []) && not (started s p) || is (START ∷ []) && not (isLoaded s (byte 2)))
+      ∷ (ABSENT, is (POST ∷ POSTFRONT ∷ SUBSCRIBE ∷ UNSUBSCRIBE ∷ ARM ∷ RECALL ∷ FLAG ∷ []) && not (started s p) || is (START ∷ []) && not (isLoaded s (byte 2)))
       ∷ (TAKEN, is (START ∷ []) && started s p || (is (LOAD ∷ []) && slotInUse || is (ARM ∷ []) && armed s (byte 1)))
       ∷ (
         FULL,
@@ -241,8 +266,8 @@ module _ (n : ℕ) (s : State) (r d : List ℕ) (z : Areas) where
       ∷ (DRY, is (NEW ∷ []) && dry s (byte 2))
       ∷ (HOLDS, is (HOLD ∷ []) && eqb (holdsOn s (byte 1)) mostHolds || is (RELEASE ∷ []) && eqb (holdsOn s (byte 1)) 0)
       ∷ (INUSE, is (DROP ∷ []) && not (isNew (at (s .cells) (byte 1))))
-      ∷ (CHART, is (LOAD ∷ []) && not (eqb (classOf d) 0))
-      ∷ (TABLE, is (START ∷ []) && not (sound (startRow (z .tables) (byte 2))) || is (NEXT ∷ []) && not (sound (nextRow s (z .tables))))
+      ∷ (CHART, is (LOAD ∷ []) && not (eqb (classOf (editionOf (byte 1)) d) 0))
+      ∷ (TABLE, unsound)
       ∷ []
 
 -- The line with the number k applies.

@@ -2,13 +2,14 @@
 -- pool has free, DRAIN's steps, side queues.
 use mathlib.Core.Bool.{Bool, true, cond, _&&_}
 use mathlib.Core.List.{List, [], _∷_, _++_}
-use mathlib.Core.Logic.{_⊎_}
+use mathlib.Core.Logic.{_↔_, _⊎_}
 use mathlib.Core.Path.{_≡_, refl}
 use Prim.Native.Nat.{ℕ, zero, suc, _+_, _*_, _-_, _≤_, _<_}
 use lib.Dec.{eqb, ltb}
 use lib.ListN.{length, getD, take, drop, replicate}
 use Rattle.chart.specs.Chart.{classOf}
 use Rattle.chart.specs.Flat.{Agrees, slotBytes}
+use Rattle.chart.specs.declared.read.Edition.{Edition}
 use Rattle.chart.specs.Step
 use Rattle.chart.specs.Step.{step}
 use Rattle.mail.specs.Box.{front, one, queued, rest, timesIn}
@@ -22,9 +23,9 @@ use Rattle.machine.specs.Events.{receivers}
 use Rattle.machine.specs.Inv.{isLive, references}
 use Rattle.machine.specs.Machine as machine
 use Rattle.machine.specs.Machine.{payload, partOf}
-use Rattle.machine.specs.Numbers.{blocks, objects, handlePlace, replyBytes}
+use Rattle.machine.specs.Numbers.{blocks, objects, editionOf, handlePlace, replyBytes}
 use Rattle.machine.specs.Reply.{DONE, CHART, TABLE, bytes, handle, generationFrom}
-use Rattle.machine.specs.State.{signalIn, boxOf, restOf, sideOf, slotOf}
+use Rattle.machine.specs.State.{signalIn, boxOf, restOf, sideOf, slotOf, withFlags}
 use Rattle.machine.specs.Steps.{signalOf, firstByte, generationIn}
 use Rattle.story.specs.Calls.{areBytes, Call, Story, fresh, then, kernel, answerIn}
 use Rattle.story.specs.Table.{LOAD, NEW, PUBLISH, DROP, NEXT, END, applies, namers, oneOf}
@@ -155,12 +156,16 @@ logLine i log = take replyBytes (drop (replyBytes * i) log)
 abbrev pub says : ℕ → ℕ → ℕ → ℕ → Step.Answer → List ℕ
 says p g first gen a = bytes DONE p (a .outcome) g (length (a .acts)) 0 0 (a .acts) (handle first gen)
 
--- What a call that is a NEXT steps by: the signal of the event that it takes, and the nested step from its object's rest.
+-- Flag f of object p is up after a story.
+abbrev pub isUp : Story → ℕ → ℕ → Bool
+isUp h p f = kernel h .flags p f
+
+-- What a call that is a NEXT steps by: the signal of the event that it takes, and the nested step from its object's rest with its flags.
 abbrev pub signalTaken : Story → Call → ℕ
 signalTaken h c = signalOf (kernel h) (kernel (then h c) .hand)
 
 abbrev pub nested : Story → Call → Step.Answer
-nested h c = step (chartIn h (slotOf (kernel h) (object h c))) (restOf (kernel h) (object h c)) (signalTaken h c)
+nested h c = step (chartIn h (slotOf (kernel h) (object h c))) (isUp h (object h c)) (restOf (kernel h) (object h c)) (signalTaken h c)
 
 -- A call changes nothing: the kernel and the areas that it was lent are as they were, no part is handed back, and all of the reply is its
 -- number, zeros, and the class of a refused chart.
@@ -168,7 +173,7 @@ pub record Unchanged (h : Story) (c : Call) : Type 0 where
   pub state : kernel (then h c) ≡ kernel h
   pub areas : answerIn h c .areas ≡ c .areas
   pub part : partOf (kernel h) (c .command) (c .areas .payloads) ≡ []
-  pub says : reply h c ≡ number h c ∷ 0 ∷ 0 ∷ 0 ∷ cond (eqb (number h c) CHART) (classOf (c .chart)) 0 ∷ replicate 23 0
+  pub says : reply h c ≡ number h c ∷ 0 ∷ 0 ∷ 0 ∷ cond (eqb (number h c) CHART) (classOf (editionOf (argument c 1)) (c .chart)) 0 ∷ replicate 23 0
 
 -- A call takes the front event of the object p, the highest with mail; the others' mail stays.
 pub record Takes (h : Story) (c : Call) (p : ℕ) : Type 0 where
@@ -245,8 +250,16 @@ pub record Lives (h : Story) (e : ℕ) : Type 0 where
   pub one-of : block < blocks
   pub live : isLive (cell h block) ≡ true
 
--- A slot of the tables, t, holds the chart d: accepted, its table, and flat and nested agree over any sequence of signals.
-pub record Holds (d t : List ℕ) : Type 0 where
-  pub accepted : classOf d ≡ 0
-  pub table : t ≡ slotBytes d
-  pub agrees : Agrees d t
+-- A call sets flag f of object p to v, and changes nothing else: no other flag, and nothing but flags.
+pub record Flags (h : Story) (c : Call) (p f : ℕ) (v : Bool) : Type 0 where
+  pub this : isUp (then h c) p f ≡ v
+  pub others : (q g : ℕ) → (q ≡ p → g ≡ f → ⊥) → isUp (then h c) q g ≡ isUp h q g
+  pub rest : kernel (then h c) ≡ withFlags (kernel (then h c) .flags) (kernel h)
+  pub areas : answerIn h c .areas ≡ c .areas
+  pub changed : (value₁ h c ≡ 1) ↔ (isUp (then h c) p f ≡ isUp h p f → ⊥)
+
+-- A slot's table t holds the chart d of edition e: accepted, its table, and flat and nested agree over any sequence of signals and flags.
+pub record Holds (e : Edition) (d t : List ℕ) : Type 0 where
+  pub accepted : classOf e d ≡ 0
+  pub table : t ≡ slotBytes e d
+  pub agrees : Agrees e d t

@@ -17,6 +17,7 @@ timing places heads counts counters depths owners alarms intervals s = record {
   sides = s .sides;
   objects = record { depths = depths; rests = s .objects .rests; seats = s .objects .seats };
   wants = s .wants;
+  flags = s .flags;
   loaded = s .loaded;
   timers = record { owners = owners; alarms = alarms; counters = counters; intervals = intervals };
   hand = s .hand;

@@ -6,8 +6,8 @@
 //     NEW 6 3 7 8 9                           signal, size; then the payload's bytes
 //     READ 1 70000 · POST 0 16777215 9 2      a handle: block; then the generation, three bytes
 //     ARM 0 9 6 500 0                         timer, object, signal; then ticks and interval, two bytes each
-//     TOP 1 10 · STATE 0 11 12 2 13 · ROW 1 5 1 1 15     the records of a chart, of 8 bytes
-//     22 1 2                                  a number for a name: a command record of just these bytes, then 0
+//     TOP 1 10 · STATE 0 11 12 2 13 · ROW 1 5 1 1 15 2   the records of a chart, of 8 bytes
+//     23 1 2                                  a number for a name: a command record of just these bytes, then 0
 //     PIECE 16 0                              as many bytes as are given
 //     FRESH                                   no record, but a mark: here a trace begins
 use check::same;

@@ -1,19 +1,25 @@
 //! Writes the charts that test the check and the flattener, and what the model makes of them.
 
+use model::chart::Edition;
 use model::harness::program::run;
 use model::harness::{bytes_of, cases, names, report};
 use std::io::{self, BufWriter, Write};
 use std::process::ExitCode;
 
-const USAGE: &str = "usage: charts rows | classes | list | bytes NAME | random SEED COUNT | \
-                     cases input | cases expected";
+const USAGE: &str = "usage: charts rows EDITION | classes EDITION | list EDITION | bytes NAME
+     | random EDITION SEED COUNT | cases input | cases expected
+EDITION is plain or guarded";
 
 enum Request {
-    Rows,
-    Classes,
-    List,
+    Rows(Edition),
+    Classes(Edition),
+    List(Edition),
     Bytes(Vec<u8>),
-    Random { seed: u64, count: usize },
+    Random {
+        edition: Edition,
+        seed: u64,
+        count: usize,
+    },
     CasesInput,
     CasesExpected,
 }
@@ -24,14 +30,15 @@ fn main() -> ExitCode {
 
 fn read_request(words: &[&str]) -> Result<Request, String> {
     match words {
-        ["rows"] => Ok(Request::Rows),
-        ["classes"] => Ok(Request::Classes),
-        ["list"] => Ok(Request::List),
+        ["rows", edition] => Ok(Request::Rows(read_edition(edition)?)),
+        ["classes", edition] => Ok(Request::Classes(read_edition(edition)?)),
+        ["list", edition] => Ok(Request::List(read_edition(edition)?)),
         ["bytes", name] => {
             let bytes = bytes_of(name).ok_or(format!("no chart is named {name}"))?;
             Ok(Request::Bytes(bytes))
         }
-        ["random", seed, count] => Ok(Request::Random {
+        ["random", edition, seed, count] => Ok(Request::Random {
+            edition: read_edition(edition)?,
             seed: seed.parse().map_err(|_| USAGE)?,
             count: count.parse().map_err(|_| USAGE)?,
         }),
@@ -41,18 +48,30 @@ fn read_request(words: &[&str]) -> Result<Request, String> {
     }
 }
 
+fn read_edition(word: &str) -> Result<Edition, String> {
+    match word {
+        "plain" => Ok(Edition::Plain),
+        "guarded" => Ok(Edition::Guarded),
+        _ => Err(String::from(USAGE)),
+    }
+}
+
 fn answer(request: &Request) -> io::Result<()> {
     let mut out = BufWriter::new(io::stdout().lock());
     match request {
-        Request::Rows => report::write_rows(&mut out)?,
-        Request::Classes => report::write_classes(&mut out)?,
-        Request::List => {
-            for name in names() {
+        Request::Rows(edition) => report::write_rows(&mut out, *edition)?,
+        Request::Classes(edition) => report::write_classes(&mut out, *edition)?,
+        Request::List(edition) => {
+            for name in names(*edition) {
                 writeln!(out, "{name}")?;
             }
         }
         Request::Bytes(bytes) => out.write_all(bytes)?,
-        Request::Random { seed, count } => report::write_random(&mut out, *seed, *count)?,
+        Request::Random {
+            edition,
+            seed,
+            count,
+        } => report::write_random(&mut out, *edition, *seed, *count)?,
         Request::CasesInput => cases::write_input(&mut out)?,
         Request::CasesExpected => cases::write_expected(&mut out)?,
     }

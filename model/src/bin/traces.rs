@@ -2,7 +2,7 @@
 
 use model::harness::files::{read_charts, write_charts, write_run};
 use model::harness::program::run;
-use model::harness::traces::areas::Calls;
+use model::harness::traces::areas::{self, Calls};
 use model::harness::traces::coverage::Coverage;
 use model::harness::traces::{show, Trace};
 use model::kernel::numbers::REPLY_BYTES;
@@ -13,8 +13,11 @@ use std::path::{Path, PathBuf};
 use std::process::ExitCode;
 
 const USAGE: &str = "usage: traces write SEED COMMANDS DIR | replay DIR | show < REPLIES
-     | coverage FIRST_SEED COUNT COMMANDS | areas SEED COUNT CRATE
-     | vectors CRATE SEED:COMMANDS..";
+     | coverage FIRST_SEED COUNT COMMANDS | areas CRATE SEED:CALLS.. | coverage_of_areas SEED:CALLS..
+     | vectors CRATE SEED:COMMANDS.. | coverage_of_vectors SEED:COMMANDS..";
+
+/// Seeds, and how many commands or calls to make of each.
+type Seeds = Vec<(u64, usize)>;
 
 enum Request {
     Write {
@@ -26,20 +29,15 @@ enum Request {
         directory: PathBuf,
     },
     Show,
-    Coverage {
-        first_seed: u64,
-        count: u64,
-        commands: usize,
-    },
+    Coverage(Seeds),
+    CoverageOfAreas(Seeds),
     Areas {
-        seed: u64,
-        count: usize,
         program: PathBuf,
+        runs: Seeds,
     },
     Vectors {
         program: PathBuf,
-        /// The seed and the number of commands of each trace.
-        traces: Vec<(u64, usize)>,
+        traces: Seeds,
     },
 }
 
@@ -59,25 +57,28 @@ fn read_request(words: &[&str]) -> Option<Request> {
             directory: PathBuf::from(directory),
         },
         ["show"] => Request::Show,
-        ["coverage", first_seed, count, commands] => Request::Coverage {
-            first_seed: first_seed.parse().ok()?,
-            count: count.parse().ok()?,
-            commands: commands.parse().ok()?,
-        },
-        ["areas", seed, count, program] => Request::Areas {
-            seed: seed.parse().ok()?,
-            count: count.parse().ok()?,
+        ["coverage", first_seed, count, commands] => {
+            let (first, count): (u64, u64) = (first_seed.parse().ok()?, count.parse().ok()?);
+            let commands = commands.parse().ok()?;
+            let seeds = first..first + count;
+            Request::Coverage(seeds.map(|seed| (seed, commands)).collect())
+        }
+        ["coverage_of_vectors", traces @ ..] => Request::Coverage(read_pairs(traces)?),
+        ["coverage_of_areas", runs @ ..] => Request::CoverageOfAreas(read_pairs(runs)?),
+        ["areas", program, runs @ ..] => Request::Areas {
             program: PathBuf::from(program),
+            runs: read_pairs(runs)?,
         },
         ["vectors", program, traces @ ..] => Request::Vectors {
             program: PathBuf::from(program),
-            traces: traces
-                .iter()
-                .map(|word| read_pair(word))
-                .collect::<Option<_>>()?,
+            traces: read_pairs(traces)?,
         },
         _ => return None,
     })
+}
+
+fn read_pairs(words: &[&str]) -> Option<Seeds> {
+    words.iter().map(|word| read_pair(word)).collect()
 }
 
 fn read_pair(word: &str) -> Option<(u64, usize)> {
@@ -104,17 +105,12 @@ fn answer(request: &Request) -> io::Result<()> {
                 writeln!(out, "{}", show::line(reply))?;
             }
         }
-        Request::Coverage {
-            first_seed,
-            count,
-            commands,
-        } => Coverage::of_traces(*first_seed, *count, *commands).write(&mut out)?,
-        Request::Areas {
-            seed,
-            count,
-            program,
-        } => {
-            let calls = Calls::random(*seed, *count);
+        Request::Coverage(traces) => {
+            Coverage::of_traces(traces.iter().copied()).write(&mut out)?;
+        }
+        Request::CoverageOfAreas(runs) => areas::coverage(runs).write_calls(&mut out)?,
+        Request::Areas { program, runs } => {
+            let calls = Calls::random(runs);
             write_run(program, &calls.input, calls.lines.as_bytes())?;
         }
         Request::Vectors { program, traces } => write_vectors(program, traces)?,

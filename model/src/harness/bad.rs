@@ -2,8 +2,11 @@
 //!
 //! `expected` is the class as read by hand from the documents; the model must agree.
 
+mod guarded;
+
 use super::builder::ChartBuilder;
 use super::good;
+use crate::chart::Edition;
 
 pub struct BadChart {
     pub name: &'static str,
@@ -11,8 +14,18 @@ pub struct BadChart {
     pub bytes: Vec<u8>,
 }
 
-/// All bad charts, by class, then those with faults of several classes.
-pub fn all() -> Vec<BadChart> {
+/// All bad charts of an edition: those that are bad in both for one reason, then its own.
+pub fn of(edition: Edition) -> Vec<BadChart> {
+    let mut charts = in_both_editions();
+    charts.extend(match edition {
+        Edition::Plain => in_edition_one(),
+        Edition::Guarded => guarded::all(),
+    });
+    charts
+}
+
+/// By class, then those with faults of several classes.
+fn in_both_editions() -> Vec<BadChart> {
     let classes = [
         lengths(),
         kinds(),
@@ -24,11 +37,21 @@ pub fn all() -> Vec<BadChart> {
         missing_starts_and_more(),
         row_fields(),
         row_orders(),
-        full_ones(),
         mixtures(),
         mixtures_with_missing_starts(),
     ];
     classes.into_iter().flatten().collect()
+}
+
+/// Charts with more states than edition two has, and with what is a flag there.
+fn in_edition_one() -> Vec<BadChart> {
+    let charts = [
+        great_lengths(),
+        large_ones(),
+        full_ones(),
+        flags_as_fillers(),
+    ];
+    charts.into_iter().flatten().collect()
 }
 
 fn chart(name: &'static str, expected: u32, bytes: Vec<u8>) -> BadChart {
@@ -104,7 +127,6 @@ fn extended(bytes: Vec<u8>, more: &[u8]) -> Vec<u8> {
 
 /// Class 1; a length of 8 is a length of class 2, as no state follows.
 fn lengths() -> Vec<BadChart> {
-    let one_row = [2, 24, 31, 0, 0, 1, 0, 0];
     vec![
         chart("length_0", 1, vec![]),
         chart("length_1", 1, vec![3]),
@@ -112,6 +134,13 @@ fn lengths() -> Vec<BadChart> {
         chart("length_8", 2, shortened(good::shift(), 8)),
         chart("length_9", 1, shortened(good::shift(), 9)),
         chart("length_103", 1, shortened(good::shift(), 103)),
+    ]
+}
+
+/// Class 1 around the length of the fullest chart.
+fn great_lengths() -> Vec<BadChart> {
+    let one_row = [2, 24, 31, 0, 0, 1, 0, 0];
+    vec![
         chart("length_5575", 1, shortened(good::full(), 5_575)),
         chart("length_5577", 1, extended(good::full(), &[0])),
         chart("length_5584", 1, extended(good::full(), &one_row)),
@@ -158,9 +187,9 @@ fn kinds() -> Vec<BadChart> {
     ]
 }
 
-/// Class 2: each filler byte of each kind of record in turn.
+/// Class 2: each filler byte of each kind of record in turn; byte 6 of a row is one in edition one alone.
 fn fillers() -> Vec<BadChart> {
-    const NAMES: [(&str, usize, u8); 9] = [
+    const NAMES: [(&str, usize, u8); 8] = [
         ("filler_3_of_top", 3, 1),
         ("filler_4_of_top", 4, 128),
         ("filler_5_of_top", 5, 1),
@@ -168,7 +197,6 @@ fn fillers() -> Vec<BadChart> {
         ("filler_7_of_top", 7, 1),
         ("filler_6_of_state", 8 + 6, 1),
         ("filler_7_of_state", 8 + 7, 255),
-        ("filler_6_of_row", 16 + 6, 128),
         ("filler_7_of_row", 16 + 7, 1),
     ];
     let spoil = |(name, place, value)| {
@@ -224,7 +252,6 @@ fn nestings() -> Vec<BadChart> {
                 .bytes(),
         ),
         chart("levels_7", 3, nested_states(7).bytes()),
-        chart("levels_24", 3, nested_states(24).bytes()),
         chart(
             "levels_7_after_a_good_branch",
             3,
@@ -293,7 +320,6 @@ pub fn missing_starts() -> Vec<BadChart> {
         chart("no_start", 3, no_start(1).bytes()),
         chart("no_start_in_1_of_shift", 3, without_start(good::shift(), 1)),
         chart("no_start_in_3_of_shift", 3, without_start(good::shift(), 3)),
-        chart("no_start_in_19_of_full", 3, without_start(good::full(), 19)),
         chart(
             "no_start_in_outer_parent",
             3,
@@ -313,12 +339,6 @@ pub fn missing_starts() -> Vec<BadChart> {
             "no_start_at_any_level",
             3,
             (1..6).fold(six_levels, without_start),
-        ),
-        chart("no_start_in_23", 3, flat_states(23).state(23, 1, 2).bytes()),
-        chart(
-            "no_start_in_parent_of_24",
-            3,
-            flat_states(23).state(1, 1, 2).bytes(),
         ),
         chart(
             "no_start_in_top_target",
@@ -461,6 +481,18 @@ fn row_orders() -> Vec<BadChart> {
     ]
 }
 
+/// Class 3 with many states.
+fn large_ones() -> Vec<BadChart> {
+    let last_in = |parent| flat_states(23).state(parent, 1, 2).bytes();
+    let without_19 = without_start(good::full(), 19);
+    vec![
+        chart("levels_24", 3, nested_states(24).bytes()),
+        chart("no_start_in_19_of_full", 3, without_19),
+        chart("no_start_in_23", 3, last_in(23)),
+        chart("no_start_in_parent_of_24", 3, last_in(1)),
+    ]
+}
+
 /// The fullest chart with one byte changed, at its far ends.
 fn full_ones() -> Vec<BadChart> {
     let spoilt = |place: usize, value| {
@@ -480,12 +512,26 @@ fn full_ones() -> Vec<BadChart> {
     ]
 }
 
+/// Class 2: a row with what is a flag in edition two, a good one or not.
+fn flags_as_fillers() -> Vec<BadChart> {
+    let flag = |flag| four_states().internal(1, 4, 9).flag(flag).bytes();
+    let wrong_row = four_states().internal(0, 4, 9).flag(1).bytes();
+    vec![
+        chart("filler_6_of_row_1", 2, flag(1)),
+        chart("filler_6_of_row_8", 2, flag(8)),
+        chart("filler_6_of_row_9", 2, flag(9)),
+        chart("filler_6_of_row_255", 2, flag(255)),
+        chart("filler_6_of_row_and_4", 2, wrong_row),
+        chart("alarm_in_edition_one", 2, good::alarm()),
+    ]
+}
+
 /// Faults of several classes: the lowest is reported, wherever it stands.
 fn mixtures() -> Vec<BadChart> {
     let wrong_row = |chart: ChartBuilder| chart.internal(0, 4, 9);
     let unknown = [9, 0, 0, 0, 0, 0, 0, 0];
     let state_with_filler = [1, 0, 1, 2, 0, 0, 0, 7];
-    let row_with_filler = [2, 4, 31, 0, 0, 9, 7, 0];
+    let row_with_filler = [2, 4, 31, 0, 0, 9, 0, 7];
     vec![
         chart(
             "class_1_and_2",
@@ -656,23 +702,31 @@ fn mixtures_with_missing_starts() -> Vec<BadChart> {
 #[cfg(test)]
 mod tests {
     use super::*;
-    use crate::chart::{check, flatten, SLOT_BYTES};
+    use crate::chart::{check, flatten, Fault, GOOD};
     use crate::harness::starts::{missing, missing_is_the_only_fault};
     use std::collections::HashSet;
 
+    /// Each edition's bad charts.
+    fn all() -> impl Iterator<Item = (Edition, BadChart)> {
+        let of = |edition| of(edition).into_iter().map(move |bad| (edition, bad));
+        Edition::ALL.into_iter().flat_map(of)
+    }
+
     #[test]
     fn the_model_agrees_with_the_classes_by_hand() {
-        for bad in all() {
-            assert_eq!(check(&bad.bytes), bad.expected, "{}", bad.name);
+        for (edition, bad) in all() {
+            let class = check(edition, &bad.bytes);
+            assert_eq!(class, bad.expected, "{edition:?} {}", bad.name);
         }
     }
 
     #[test]
-    fn a_bad_chart_leaves_the_slot_alone() {
-        for bad in all() {
-            let mut slot = vec![0xee; SLOT_BYTES];
-            assert_eq!(flatten(&bad.bytes, &mut slot), bad.expected);
-            assert!(slot.iter().all(|&byte| byte == 0xee), "{}", bad.name);
+    fn a_bad_chart_leaves_the_table_alone() {
+        for (edition, bad) in all() {
+            let mut table = vec![0xee; edition.table_bytes()];
+            let answer = flatten(edition, &bad.bytes, &mut table);
+            assert_eq!(answer, bad.expected, "{edition:?} {}", bad.name);
+            assert!(table.iter().all(|&byte| byte == 0xee), "{}", bad.name);
         }
     }
 
@@ -685,34 +739,49 @@ mod tests {
 
     #[test]
     fn a_start_is_missing_alone_and_beside_others() {
-        for bad in missing_starts() {
-            assert!(missing_is_the_only_fault(&bad.bytes), "{}", bad.name);
-        }
-        for bad in missing_beside_others() {
-            assert_ne!(missing(&bad.bytes), [], "{}", bad.name);
-            assert!(!missing_is_the_only_fault(&bad.bytes), "{}", bad.name);
+        for edition in Edition::ALL {
+            let alone = |bad: &BadChart| missing_is_the_only_fault(edition, &bad.bytes);
+            for bad in missing_starts() {
+                assert!(alone(&bad), "{}", bad.name);
+            }
+            for bad in missing_beside_others() {
+                assert_ne!(missing(&bad.bytes), [], "{}", bad.name);
+                assert!(!alone(&bad), "{}", bad.name);
+            }
         }
     }
 
     /// A chart that is there for another fault must not be refused for this one.
     #[test]
     fn no_start_is_missing_in_other_bad_charts() {
-        let own = [missing_starts(), missing_beside_others()];
+        let own = [missing_starts(), missing_beside_others(), large_ones()];
         let own: HashSet<_> = own.iter().flatten().map(|bad| bad.name).collect();
-        for bad in all().iter().filter(|bad| !own.contains(bad.name)) {
+        let others = all().filter(|(_, bad)| !own.contains(bad.name));
+        for (_, bad) in others.filter(|(_, bad)| !bad.name.contains("no_start")) {
             assert_eq!(missing(&bad.bytes), [], "{}", bad.name);
+        }
+    }
+
+    /// There it is good, or a fault of the rows.
+    #[test]
+    fn what_is_filler_in_edition_one_is_a_flag_in_edition_two() {
+        for bad in flags_as_fillers() {
+            let class = check(Edition::Guarded, &bad.bytes);
+            assert!([GOOD, Fault::Rows.class()].contains(&class), "{}", bad.name);
         }
     }
 
     #[test]
     fn the_unspoilt_beginnings_are_good() {
-        for beginning in [
-            four_states(),
-            flat_states(1),
-            flat_states(24),
-            nested_states(6),
-        ] {
-            assert_eq!(check(&beginning.bytes()), 0);
+        for edition in Edition::ALL {
+            for beginning in [
+                four_states(),
+                flat_states(1),
+                flat_states(edition.most_states()),
+                nested_states(6),
+            ] {
+                assert_eq!(check(edition, &beginning.bytes()), GOOD);
+            }
         }
     }
 }

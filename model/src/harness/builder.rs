@@ -40,6 +40,13 @@ impl ChartBuilder {
         self.record([2, state, signal, 1, target, action, 0, 0])
     }
 
+    /// Gives the last row a flag.
+    pub fn flag(mut self, flag: u8) -> Self {
+        let row = self.records.last_mut().expect("a row comes first");
+        row[6] = flag;
+        self
+    }
+
     /// Any record, for the charts that the other calls cannot make.
     pub fn record(mut self, record: [u8; RECORD_BYTES]) -> Self {
         self.records.push(record);
@@ -63,6 +70,8 @@ mod tests {
             .state(1, 21, 22)
             .internal(1, 5, 15)
             .transition(2, 6, 1, 26)
+            .internal(2, 7, 27)
+            .flag(8)
             .bytes();
         let expected = [
             [3, 1, 10, 0, 0, 0, 0, 0],
@@ -70,6 +79,7 @@ mod tests {
             [1, 1, 21, 22, 0, 0, 0, 0],
             [2, 1, 5, 0, 0, 15, 0, 0],
             [2, 2, 6, 1, 1, 26, 0, 0],
+            [2, 2, 7, 0, 0, 27, 8, 0],
         ];
         assert_eq!(bytes, expected.concat());
     }

@@ -2,69 +2,105 @@
 //! that it must write, its file `stdout`.
 
 use super::random::RandomCharts;
-use super::report::{listed_rows, spaced, table_sum};
+use super::report::{listed_rows, table_sum};
 use super::{bad, good};
-use crate::chart::{flatten, GOOD, SLOT_BYTES};
+use crate::chart::{flatten, Edition, GOOD};
 use std::io::{self, Write};
 
-/// What the program fills a slot with, so that a byte which is written shows.
+/// What the program fills a table with, so that a byte which is written shows.
 const FILL: u8 = 170;
 
 const RANDOM_SEED: u64 = 1;
 const RANDOM_COUNT: usize = 60;
 
-/// A chart, and whether the rows of its table are written out.
+/// A chart, the edition whose calls it is given to, and whether the rows of its table are written out.
 struct Case {
     shows_rows: bool,
+    edition: Edition,
     chart: Vec<u8>,
 }
 
-/// The good charts, of which the program keeps the first, then the bad ones and the random ones.
-/// Of a random chart the sum is enough: the rows of all would make a long text.
+/// First those of edition one, of which the program keeps the first chart.
 fn all() -> Vec<Case> {
-    let case = |shows_rows, chart| Case { shows_rows, chart };
-    let good = good::all().into_iter().map(|good| case(true, good.bytes));
-    let bad = bad::all().into_iter().map(|bad| case(true, bad.bytes));
-    let random = RandomCharts::new(RANDOM_SEED).map(|chart| case(false, chart));
-    good.chain(bad).chain(random.take(RANDOM_COUNT)).collect()
+    Edition::ALL.into_iter().flat_map(of).collect()
 }
 
-/// For each case one byte for the rows, the chart's length with its low byte first, and the chart.
+/// The good charts, then the bad ones and the random ones.
+/// Of a random chart the sum is enough: the rows of all would make a long text.
+fn of(edition: Edition) -> Vec<Case> {
+    let case = |shows_rows, chart| Case {
+        shows_rows,
+        edition,
+        chart,
+    };
+    let good = good::of(edition).into_iter();
+    let bad = bad::of(edition).into_iter();
+    let random = RandomCharts::new(edition, RANDOM_SEED).take(RANDOM_COUNT);
+    good.map(|good| case(true, good.bytes))
+        .chain(bad.map(|bad| case(true, bad.bytes)))
+        .chain(random.map(|chart| case(false, chart)))
+        .collect()
+}
+
+impl Case {
+    /// The byte before a chart: 1 for the rows, 2 for edition two.
+    fn marks(&self) -> u8 {
+        let is_guarded = self.edition == Edition::Guarded;
+        u8::from(self.shows_rows) + 2 * u8::from(is_guarded)
+    }
+}
+
+/// For each case one byte for what is asked, the chart's length with its low byte first, and the chart.
 pub fn write_input(out: &mut impl Write) -> io::Result<()> {
     for case in all() {
         let length = u16::try_from(case.chart.len()).expect("two bytes hold a length");
-        out.write_all(&[u8::from(case.shows_rows)])?;
+        out.write_all(&[case.marks()])?;
         out.write_all(&length.to_le_bytes())?;
         out.write_all(&case.chart)?;
     }
     Ok(())
 }
 
-/// The answer to each case, and then to the first chart with slots of other lengths.
+/// The answer to each case, and then to the first chart with tables of other lengths, by the calls of both editions.
 pub fn write_expected(out: &mut impl Write) -> io::Result<()> {
     let cases = all();
     for case in &cases {
         write_answer(out, case)?;
     }
-    for length in [0, SLOT_BYTES - 1, SLOT_BYTES + 1] {
-        let mut slot = vec![FILL; length];
-        let answer = flatten(&cases[0].chart, &mut slot);
-        let sum = table_sum(&slot);
-        writeln!(out, "length {length} answer {answer} sum {sum}")?;
+    let first = &cases[0].chart;
+    for length in [0, 16_151, 16_153] {
+        write!(out, "length ")?;
+        write_length(out, Edition::Plain, first, length)?;
+    }
+    for length in [0, 16_152, 32_279, 32_281] {
+        write!(out, "guarded length ")?;
+        write_length(out, Edition::Guarded, first, length)?;
     }
     Ok(())
 }
 
 fn write_answer(out: &mut impl Write, case: &Case) -> io::Result<()> {
-    let mut slot = vec![FILL; SLOT_BYTES];
-    let class = flatten(&case.chart, &mut slot);
+    let mut table = vec![FILL; case.edition.table_bytes()];
+    let class = flatten(case.edition, &case.chart, &mut table);
     writeln!(out, "class {class}")?;
     if class == GOOD && case.shows_rows {
-        for (offset, bytes) in listed_rows(&slot) {
-            writeln!(out, "{offset}:{}", spaced(bytes))?;
+        for row in listed_rows(&table) {
+            writeln!(out, "{row}")?;
         }
     }
-    writeln!(out, "sum {}", table_sum(&slot))
+    writeln!(out, "sum {}", table_sum(&table))
+}
+
+/// The answer for a table of that length, and what the table holds then.
+fn write_length(
+    out: &mut impl Write,
+    edition: Edition,
+    chart: &[u8],
+    length: usize,
+) -> io::Result<()> {
+    let mut table = vec![FILL; length];
+    let answer = flatten(edition, chart, &mut table);
+    writeln!(out, "{length} answer {answer} sum {}", table_sum(&table))
 }
 
 #[cfg(test)]
@@ -72,6 +108,7 @@ mod tests {
     use super::*;
     use crate::chart::check;
     use crate::harness::starts::missing_is_the_only_fault;
+    use std::collections::HashSet;
 
     fn expected() -> String {
         let mut out = Vec::new();
@@ -79,7 +116,13 @@ mod tests {
         String::from_utf8(out).expect("plain text")
     }
 
-    /// The sum of a slot that still holds what it was filled with: 170 times 1 + 2 + ... + length.
+    fn answer(case: &Case) -> String {
+        let mut out = Vec::new();
+        write_answer(&mut out, case).expect("a vector takes all");
+        String::from_utf8(out).expect("plain text")
+    }
+
+    /// The sum of a table that still holds what it was filled with: 170 times 1 + 2 + ... + length.
     fn untouched_sum(length: u64) -> u64 {
         170 * length * (length + 1) / 2 % (1 << 32)
     }
@@ -101,35 +144,69 @@ mod tests {
     }
 
     #[test]
-    fn a_refused_chart_shows_an_untouched_slot() {
-        let refused = Case {
+    fn a_chart_of_edition_two_shows_its_flags() {
+        let alarm = Case {
             shows_rows: true,
-            chart: vec![],
+            edition: Edition::Guarded,
+            chart: good::alarm(),
         };
-        let mut out = Vec::new();
-        write_answer(&mut out, &refused).expect("a vector takes all");
-        let text = format!("class 1\nsum {}\n", untouched_sum(16_152));
-        assert_eq!(out, text.as_bytes());
+        assert_eq!(alarm.marks(), 3);
+        let text = answer(&alarm);
+        assert!(text.contains("\n12696: 4 1 1 49 flag 1\n12720: 5 2 3 38 42 51 flag 2\n"));
+        assert!(text.contains("\n12744: 2 2 7 15 42 32 12 11 13 21\n"));
     }
 
     #[test]
-    fn slots_of_other_lengths_come_last() {
-        let text = expected();
-        let lines: Vec<_> = text.lines().rev().take(3).collect();
-        for (line, length) in lines.into_iter().zip([16_153, 16_151, 0]) {
+    fn each_chart_has_its_marks() {
+        let marks: HashSet<u8> = all().iter().map(Case::marks).collect();
+        assert_eq!(marks, HashSet::from([0, 1, 2, 3]));
+    }
+
+    #[test]
+    fn a_refused_chart_shows_an_untouched_table() {
+        for (edition, length) in [(Edition::Plain, 16_152), (Edition::Guarded, 32_280)] {
+            let refused = Case {
+                shows_rows: true,
+                edition,
+                chart: vec![],
+            };
             let sum = untouched_sum(length);
-            assert_eq!(line, format!("length {length} answer 5 sum {sum}"));
+            assert_eq!(answer(&refused), format!("class 1\nsum {sum}\n"));
+        }
+    }
+
+    #[test]
+    fn tables_of_other_lengths_come_last() {
+        let text = expected();
+        let lines: Vec<_> = text.lines().collect();
+        let asked = [
+            ("length", 0),
+            ("length", 16_151),
+            ("length", 16_153),
+            ("guarded length", 0),
+            ("guarded length", 16_152),
+            ("guarded length", 32_279),
+            ("guarded length", 32_281),
+        ];
+        let last_lines = &lines[lines.len() - asked.len()..];
+        for (line, (name, length)) in last_lines.iter().zip(asked) {
+            let sum = untouched_sum(length);
+            assert_eq!(*line, format!("{name} {length} answer 5 sum {sum}"));
         }
     }
 
     #[test]
     fn the_random_charts_are_of_every_class_and_some_only_lack_a_start() {
-        let random: Vec<_> = all().into_iter().filter(|case| !case.shows_rows).collect();
-        assert_eq!(random.len(), RANDOM_COUNT);
-        for class in 0..=4 {
-            assert!(random.iter().any(|case| check(&case.chart) == class));
+        for edition in Edition::ALL {
+            let cases = of(edition);
+            let random = cases.iter().filter(|case| !case.shows_rows);
+            let charts: Vec<_> = random.map(|case| &case.chart).collect();
+            assert_eq!(charts.len(), RANDOM_COUNT);
+            for class in 0..=4 {
+                assert!(charts.iter().any(|chart| check(edition, chart) == class));
+            }
+            let lacks_a_start = |chart: &&Vec<u8>| missing_is_the_only_fault(edition, chart);
+            assert!(charts.iter().any(lacks_a_start));
         }
-        let mut charts = random.iter().map(|case| &case.chart);
-        assert!(charts.any(|chart| missing_is_the_only_fault(chart)));
     }
 }

@@ -1,31 +1,60 @@
 //! The hard charts: good ones that try every rule of the step.
+//! Those whose rows have flags stand in `guarded`.
 //!
 //! The comments write a > {b, c} for a state a that contains b and c. Where
 //! nothing else is said, state s has entry 10 s + 1, exit 10 s + 2 and
 //! initial action 10 s + 3, and the top has action 10.
 
+mod guarded;
+
+pub use guarded::{alarm, fullest_with_flags, rounds, six_flags};
+
 use super::builder::ChartBuilder;
-use crate::chart::{FIRST_SIGNAL, LAST_SIGNAL};
+use crate::chart::{Edition, FIRST_SIGNAL, LAST_SIGNAL};
 
 pub struct GoodChart {
     pub name: &'static str,
     pub bytes: Vec<u8>,
 }
 
-/// All hard charts, in a fixed order.
-pub fn all() -> Vec<GoodChart> {
-    let chart = |name, bytes| GoodChart { name, bytes };
+fn chart(name: &'static str, bytes: Vec<u8>) -> GoodChart {
+    GoodChart { name, bytes }
+}
+
+/// All hard charts of an edition, in a fixed order. A small one without flags is good in both.
+pub fn of(edition: Edition) -> Vec<GoodChart> {
+    match edition {
+        Edition::Plain => small_ones().into_iter().chain(large_ones()).collect(),
+        Edition::Guarded => with_flags().into_iter().chain(small_ones()).collect(),
+    }
+}
+
+/// The hard charts that edition two alone takes.
+pub fn with_flags() -> Vec<GoodChart> {
+    vec![
+        chart("alarm", alarm()),
+        chart("six_flags", six_flags()),
+        chart("rounds", rounds()),
+        chart("fullest_with_flags", fullest_with_flags()),
+    ]
+}
+
+/// With at most 8 states.
+fn small_ones() -> Vec<GoodChart> {
     vec![
         chart("shift", shift()),
         chart("smallest", smallest()),
         chart("six_levels", six_levels()),
-        chart("full", full()),
         chart("self_at_top", self_at_top()),
         chart("around_and_inside", around_and_inside()),
-        chart("eighteen", eighteen()),
         chart("actions_not_listed", actions_not_listed()),
         chart("many_tops", many_tops()),
     ]
+}
+
+/// With more.
+fn large_ones() -> Vec<GoodChart> {
+    vec![chart("full", full()), chart("eighteen", eighteen())]
 }
 
 /// The shift chart of document 01.
@@ -227,10 +256,10 @@ pub fn many_tops() -> Vec<u8> {
 #[cfg(test)]
 mod tests {
     use super::*;
-    use crate::chart::{parse, sound, Chart, Outcome, MOST_ACTIONS, ROW_BYTES};
+    use crate::chart::{parse, sound, Chart, Flags, Outcome, MOST_ACTIONS, ROW_BYTES};
 
     fn chart(bytes: Vec<u8>) -> Chart {
-        parse(&bytes).expect("a hard chart is good")
+        parse(Edition::Plain, &bytes).expect("a hard chart is good")
     }
 
     fn assert_start(chart: &Chart, next: u8, actions: &[u8]) {
@@ -244,7 +273,7 @@ mod tests {
     }
 
     fn assert_step(chart: &Chart, by: (u8, u8), outcome: Outcome, next: u8, actions: &[u8]) {
-        let step = chart.step(by.0, by.1);
+        let step = chart.step(by.0, by.1, &Flags::default());
         assert_eq!(
             (step.outcome, step.next, &step.actions[..]),
             (outcome, next, actions),
@@ -256,13 +285,17 @@ mod tests {
 
     #[test]
     fn every_hard_chart_is_good_and_its_rows_are_sound() {
-        for good in all() {
-            let chart = parse(&good.bytes);
-            let chart = chart.unwrap_or_else(|fault| panic!("{}: {:?}", good.name, fault));
-            let rows_present = 1 + 28 * chart.state_count();
-            let table = chart.table();
-            let mut rows = table.chunks(ROW_BYTES).take(rows_present);
-            assert!(rows.all(sound), "{}", good.name);
+        for edition in Edition::ALL {
+            for good in of(edition) {
+                let chart = parse(edition, &good.bytes);
+                let chart = chart.unwrap_or_else(|fault| panic!("{}: {:?}", good.name, fault));
+                let table = chart.table();
+                let mut rows = table.chunks(ROW_BYTES);
+                // Rows of absent states are zeros, and so are those of edition two that no row of the chart fills.
+                let may_stand = |row: &[u8]| sound(edition, row) || row.iter().all(|&b| b == 0);
+                assert!(rows.all(may_stand), "{}", good.name);
+                assert!(sound(edition, &table[..ROW_BYTES]), "{}", good.name);
+            }
         }
     }
 
@@ -293,7 +326,9 @@ mod tests {
         assert_eq!(chart.state_count(), 24);
         assert_start(&chart, 16, &full_start());
         for state in chart.numbers() {
-            let outcomes = (FIRST_SIGNAL..=LAST_SIGNAL).map(|g| chart.step(state, g).outcome);
+            let flags = Flags::default();
+            let signals = FIRST_SIGNAL..=LAST_SIGNAL;
+            let outcomes = signals.map(|g| chart.step(state, g, &flags).outcome);
             let internal = outcomes.filter(|o| *o == Outcome::Internal).count();
             assert_eq!(internal, 4);
         }

@@ -1,6 +1,6 @@
 //! Parents without an initial target, read from the bytes alone: the tests ask which charts have them.
 
-use crate::chart::{check, Fault, GOOD, RECORD_BYTES};
+use crate::chart::{check, Edition, Fault, GOOD, RECORD_BYTES};
 
 /// Each parent without an initial target: where its record begins, and its first child.
 pub fn missing(chart: &[u8]) -> Vec<(usize, u8)> {
@@ -18,8 +18,8 @@ pub fn missing(chart: &[u8]) -> Vec<(usize, u8)> {
         .collect()
 }
 
-/// Whether such parents are all that is wrong: a target for each makes the chart good.
-pub fn missing_is_the_only_fault(chart: &[u8]) -> bool {
+/// Whether such parents are all that is wrong with a chart of the edition: a target for each makes it good.
+pub fn missing_is_the_only_fault(edition: Edition, chart: &[u8]) -> bool {
     let missing = missing(chart);
     let mut mended = chart.to_vec();
     for (place, child) in &missing {
@@ -27,5 +27,6 @@ pub fn missing_is_the_only_fault(chart: &[u8]) -> bool {
     }
     // An action without a target is a fault of its own, which the target would hide.
     let has_action = missing.iter().any(|(place, _)| chart[place + 5] != 0);
-    check(chart) == Fault::States.class() && check(&mended) == GOOD && !has_action
+    let class = |chart: &[u8]| check(edition, chart);
+    class(chart) == Fault::States.class() && class(&mended) == GOOD && !has_action
 }

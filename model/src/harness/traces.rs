@@ -2,17 +2,19 @@
 
 pub mod areas;
 pub mod coverage;
+pub mod exchange;
 mod opening;
 mod pick;
 pub mod show;
 pub mod words;
 
 use super::bad::{self, BadChart};
-use super::good;
+use super::good::{self, GoodChart};
 use super::random::{RandomCharts, Xorshift};
-use crate::chart::{check, GOOD};
+use crate::chart::{check, Edition, GOOD};
 use crate::kernel::numbers::{RECORD_BYTES, REPLY_BYTES};
 use crate::kernel::replay::{Charts, Program};
+use crate::kernel::tables::edition_of;
 use pick::Picker;
 
 pub struct Trace {
@@ -55,38 +57,57 @@ impl Trace {
     }
 }
 
-/// Four chart files, one of them good for certain: without one no object starts.
+/// A chart file for each slot. One of edition one is good for certain: without one no object starts.
 fn random_charts(random: &mut Xorshift) -> Charts {
-    let mut charts = std::array::from_fn(|_| random_chart(random));
-    charts[random.below(4)] = hard_chart(random);
+    let mut charts = std::array::from_fn(|slot| random_chart(random, slot));
+    charts[random.below(4)] = hard_chart(random, Edition::Plain);
     charts
 }
 
-fn random_chart(random: &mut Xorshift) -> Vec<u8> {
+/// A chart for a slot, now and then one of the other edition.
+fn random_chart(random: &mut Xorshift, slot: usize) -> Vec<u8> {
+    let own = edition_of(slot as u8);
+    let edition = if random.percent(95) { own } else { other(own) };
+    let is_good = |class| class == GOOD;
     match random.below(100) {
-        0..40 => hard_chart(random),
-        40..70 => found_chart(random, |class| class == GOOD),
+        0..45 => hard_chart(random, edition),
+        45..70 => found_chart(random, edition, is_good),
         70..73 => bad_chart(random, bad::missing_starts()),
-        73..78 => found_chart(random, |class| class != GOOD),
-        78..86 => bad_chart(random, bad::all()),
+        73..80 => found_chart(random, edition, |class| !is_good(class)),
+        80..92 => bad_chart(random, bad::of(edition)),
         _ => Vec::new(),
     }
 }
 
-fn hard_chart(random: &mut Xorshift) -> Vec<u8> {
-    let good = good::all();
-    good[random.below(good.len())].bytes.clone()
+fn other(edition: Edition) -> Edition {
+    match edition {
+        Edition::Plain => Edition::Guarded,
+        Edition::Guarded => Edition::Plain,
+    }
+}
+
+/// Of edition two mostly one whose rows have flags.
+fn hard_chart(random: &mut Xorshift, edition: Edition) -> Vec<u8> {
+    if edition == Edition::Guarded && random.percent(80) {
+        return good_chart(random, good::with_flags());
+    }
+    good_chart(random, good::of(edition))
+}
+
+fn good_chart(random: &mut Xorshift, mut good: Vec<GoodChart>) -> Vec<u8> {
+    good.swap_remove(random.below(good.len())).bytes
 }
 
 fn bad_chart(random: &mut Xorshift, mut bad: Vec<BadChart>) -> Vec<u8> {
     bad.swap_remove(random.below(bad.len())).bytes
 }
 
-/// The first random chart whose class is wanted.
-fn found_chart(random: &mut Xorshift, wanted: impl Fn(u32) -> bool) -> Vec<u8> {
+/// The first random chart of the edition whose class is wanted.
+fn found_chart(random: &mut Xorshift, edition: Edition, wanted: impl Fn(u32) -> bool) -> Vec<u8> {
     let seed = random.below(1 << 32) as u64;
-    let mut charts = RandomCharts::new(seed).filter(|bytes| wanted(check(bytes)));
-    charts.next().expect("the charts are endless")
+    let charts = RandomCharts::new(edition, seed);
+    let mut found = charts.filter(|bytes| wanted(check(edition, bytes)));
+    found.next().expect("the charts are endless")
 }
 
 #[cfg(test)]
@@ -131,9 +152,11 @@ mod tests {
     fn some_loads_are_refused_only_for_a_missing_start() {
         let refuses_one = |trace: &Trace| {
             let chart = Refusal::Chart as u8;
-            let refused = trace.exchanges().filter(|(_, reply)| reply[0] == chart);
-            let mut charts = refused.map(|(load, _)| chart_for(load, &trace.charts));
-            charts.any(missing_is_the_only_fault)
+            let mut refused = trace.exchanges().filter(|(_, reply)| reply[0] == chart);
+            refused.any(|(load, _)| {
+                let chart = chart_for(load, &trace.charts);
+                missing_is_the_only_fault(edition_of(load[1]), chart)
+            })
         };
         let traces = (0..20).map(|seed| Trace::random(seed, 200));
         assert!(traces.filter(refuses_one).count() >= 2);

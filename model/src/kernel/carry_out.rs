@@ -6,29 +6,10 @@ use super::mail::{Event, Object};
 use super::numbers::{HANDLE_BYTES, REPLY_BYTES};
 use super::pool;
 use super::reply::Reply;
+use super::tables::{edition_of, place_of, Tables};
 use super::timers::Timer;
 use super::{Areas, Kernel};
-use crate::chart::{self, MOST_ACTIONS, SLOT_BYTES};
-use std::ops::Range;
-
-/// A sound row of the tables.
-struct Row {
-    next: u8,
-    outcome: u8,
-    actions: Vec<u8>,
-}
-
-impl Row {
-    fn read(tables: &[u8], place: Range<usize>) -> Self {
-        let row = &tables[place];
-        let count = usize::from(row[2]);
-        Row {
-            next: row[0],
-            outcome: row[1],
-            actions: row[3..3 + count].to_vec(),
-        }
-    }
-}
+use crate::chart::{self, Edition, FlatRow, Found, MOST_ACTIONS};
 
 impl Kernel {
     pub(super) fn carry_out(
@@ -38,8 +19,8 @@ impl Kernel {
         areas: &mut Areas,
     ) -> Reply {
         match *command {
-            Load { slot } => self.load(slot, chart, areas.tables),
-            Start { p, slot, depth } => self.start(p, slot, depth, areas.tables),
+            Load { slot } => self.load(slot, chart, areas),
+            Start { p, slot, depth } => self.start(p, slot, depth, &areas.all_tables()),
             New {
                 signal,
                 size,
@@ -73,7 +54,7 @@ impl Kernel {
                 self.pool.free(handle.block);
                 Reply::default()
             }
-            Next => self.next(areas.tables),
+            Next => self.next(&areas.all_tables()),
             End => Reply::value(self.end()),
             Arm {
                 timer,
@@ -101,20 +82,29 @@ impl Kernel {
             Defer { q } => self.defer(q),
             Recall { q, p } => Reply::value(self.recall(q, p)),
             Flush { q } => Reply::value(self.flush(q)),
+            Flag { p, flag, value } => {
+                let flags = &mut self.object_mut(p).flags;
+                Reply::value(flags.set(flag, value == 1))
+            }
         }
     }
 
-    fn load(&mut self, slot: u8, chart: &[u8], tables: &mut [u8]) -> Reply {
-        let begin = usize::from(slot) * SLOT_BYTES;
-        let chart = chart::parse(chart).expect("the chart is good");
-        tables[begin..begin + SLOT_BYTES].copy_from_slice(&chart.table());
+    fn load(&mut self, slot: u8, chart: &[u8], areas: &mut Areas) -> Reply {
+        let edition = edition_of(slot);
+        let chart = chart::parse(edition, chart).expect("the chart is good");
+        let area = match edition {
+            Edition::Plain => &mut *areas.tables,
+            Edition::Guarded => &mut *areas.guarded,
+        };
+        area[place_of(slot)].copy_from_slice(&chart.table());
         self.loaded_slots.insert(slot);
         Reply::value(chart.state_count() as u8)
     }
 
     /// A start opens no step: its actions are in the reply and END has nothing to let go.
-    fn start(&mut self, p: u8, slot: u8, depth: u8, tables: &[u8]) -> Reply {
-        let row = Row::read(tables, Self::start_row_place(slot));
+    fn start(&mut self, p: u8, slot: u8, depth: u8, tables: &Tables) -> Reply {
+        let table = tables.of_slot(slot).expect("the tables have their lengths");
+        let row = chart::read_start(edition_of(slot), table).expect("the start row is sound");
         self.objects.insert(p, Object::new(slot, row.next, depth));
         let started = Reply {
             object: p,
@@ -147,11 +137,15 @@ impl Kernel {
         Reply::values(subscribers.len() as u8, freed)
     }
 
-    fn next(&mut self, tables: &[u8]) -> Reply {
+    fn next(&mut self, tables: &Tables) -> Reply {
         let (p, event) = self.next_event().expect("something is queued");
-        let place = self.next_row_place().expect("something is queued");
-        let row = Row::read(tables, place);
+        let reading = self.next_reading(tables).expect("something is queued");
         let object = self.object_mut(p);
+        let row = match reading.found {
+            Found::Taken(row) => row,
+            Found::Nothing => FlatRow::ignored(object.rest),
+            Found::Unsound => unreachable!("the rows that are read are sound"),
+        };
         object.remove_front();
         object.rest = row.next;
         self.in_hand = Some(event);
@@ -181,10 +175,14 @@ impl Kernel {
 
     fn drain(&mut self, budget: u8, areas: &mut Areas) -> Reply {
         let mut steps = 0;
+        let tables = Tables {
+            plain: areas.tables,
+            guarded: areas.guarded,
+        };
         let mut lines = areas.log.chunks_exact_mut(REPLY_BYTES);
-        while steps < budget && self.can_step(areas.tables) {
+        while steps < budget && self.can_step(&tables) {
             let line = lines.next().expect("the log has room for 255 steps");
-            line.copy_from_slice(&self.next(areas.tables).bytes());
+            line.copy_from_slice(&self.next(&tables).bytes());
             self.end();
             steps += 1;
         }
@@ -198,7 +196,7 @@ impl Kernel {
         Reply::values(steps, why_stopped)
     }
 
-    fn can_step(&self, tables: &[u8]) -> bool {
+    fn can_step(&self, tables: &Tables) -> bool {
         !self.nothing_is_queued() && !self.next_row_is_unsound(tables)
     }
 

@@ -7,7 +7,7 @@ const HEAD_BYTES: usize = 8;
 const PAYLOAD_BYTES: usize = RECORD_BYTES - HEAD_BYTES;
 
 /// The commands' names by number, LOAD being 1.
-pub const COMMAND_NAMES: [&str; 21] = [
+pub const COMMAND_NAMES: [&str; 22] = [
     "LOAD",
     "START",
     "NEW",
@@ -29,6 +29,7 @@ pub const COMMAND_NAMES: [&str; 21] = [
     "DEFER",
     "RECALL",
     "FLUSH",
+    "FLAG",
 ];
 
 #[derive(Clone, Copy, Debug, PartialEq, Eq)]
@@ -126,6 +127,11 @@ pub enum Command {
     Flush {
         q: u8,
     },
+    Flag {
+        p: u8,
+        flag: u8,
+        value: u8,
+    },
 }
 
 use Command::*;
@@ -200,6 +206,7 @@ impl Command {
             Defer { q } => [19, q, 0, 0, 0, 0, 0, 0],
             Recall { q, p } => [20, q, p, 0, 0, 0, 0, 0],
             Flush { q } => [21, q, 0, 0, 0, 0, 0, 0],
+            Flag { p, flag, value } => [22, p, flag, value, 0, 0, 0, 0],
         }
     }
 }
@@ -245,6 +252,7 @@ fn read_head(head: &[u8], payload: &[u8]) -> Option<Command> {
         [19, q, 0, 0, 0, 0, 0, 0] => Defer { q },
         [20, q, p, 0, 0, 0, 0, 0] => Recall { q, p },
         [21, q, 0, 0, 0, 0, 0, 0] => Flush { q },
+        [22, p, flag, value, 0, 0, 0, 0] => Flag { p, flag, value },
         _ => return None,
     })
 }
@@ -263,7 +271,7 @@ mod tests {
     /// A record with as many arguments as its command uses, none of them 0.
     fn with_all_arguments(number: u8) -> [u8; RECORD_BYTES] {
         let used = [
-            1, 3, 2, 6, 5, 4, 2, 2, 4, 4, 4, 0, 0, 7, 1, 0, 4, 1, 1, 2, 1,
+            1, 3, 2, 6, 5, 4, 2, 2, 4, 4, 4, 0, 0, 7, 1, 0, 4, 1, 1, 2, 1, 3,
         ];
         let mut record = record(&[number]);
         record[1..=used[usize::from(number) - 1]].fill(1);
@@ -314,6 +322,12 @@ mod tests {
             Command::read(&record(&[20, 5, 9])),
             Some(Recall { q: 5, p: 9 })
         );
+        let flag = Flag {
+            p: 9,
+            flag: 2,
+            value: 1,
+        };
+        assert_eq!(Command::read(&record(&[22, 9, 2, 1])), Some(flag));
     }
 
     #[test]
@@ -337,7 +351,7 @@ mod tests {
 
     #[test]
     fn each_number_is_read_and_written() {
-        for number in 1..=21 {
+        for number in 1..=22 {
             let record = with_all_arguments(number);
             let command = Command::read(&record).expect("a right form");
             assert_eq!(command.record(), record);
@@ -346,7 +360,7 @@ mod tests {
 
     #[test]
     fn each_unused_byte_must_be_0() {
-        for number in 1..=21 {
+        for number in 1..=22 {
             let right = with_all_arguments(number);
             let unused = (1..RECORD_BYTES).filter(|&place| right[place] == 0);
             for place in unused {
@@ -377,7 +391,7 @@ mod tests {
 
     #[test]
     fn unknown_numbers_and_other_lengths() {
-        for number in (0..=255).filter(|number| !(1..=21).contains(number)) {
+        for number in (0..=255).filter(|number| !(1..=22).contains(number)) {
             assert_eq!(Command::read(&record(&[number])), None);
         }
         let next = record(&[12]);

@@ -1,5 +1,6 @@
 //! Objects and their mailboxes.
 
+use crate::chart::Flags;
 use std::collections::VecDeque;
 
 /// An entry of a mailbox, or the event in hand.
@@ -18,15 +19,18 @@ pub enum Event {
 pub struct Object {
     pub slot: u8,
     pub rest: u8,
+    pub flags: Flags,
     depth: u8,
     mailbox: VecDeque<Event>,
 }
 
 impl Object {
+    /// With all its flags down.
     pub fn new(slot: u8, rest: u8, depth: u8) -> Self {
         Object {
             slot,
             rest,
+            flags: Flags::default(),
             depth,
             mailbox: VecDeque::new(),
         }

@@ -9,11 +9,12 @@ mod pool;
 pub mod refusals;
 pub mod replay;
 pub mod reply;
+pub mod tables;
 #[cfg(test)]
 mod tests;
 mod timers;
 
-use crate::chart::{self, ROW_BYTES, SLOT_BYTES};
+use crate::chart::{self, Flags, Reading};
 use aside::SideQueues;
 use command::{Command, Handle};
 use mail::{Event, Object};
@@ -22,6 +23,7 @@ use pool::Pool;
 use reply::{Refusal, Reply};
 use std::collections::{BTreeMap, BTreeSet};
 use std::ops::Range;
+use tables::{edition_of, Tables};
 use timers::Timers;
 
 #[derive(Clone, Debug, PartialEq, Eq)]
@@ -42,15 +44,25 @@ pub struct Kernel {
 struct Areas<'a> {
     payloads: &'a mut [u8],
     tables: &'a mut [u8],
+    guarded: &'a mut [u8],
     log: &'a mut [u8],
 }
 
 /// What a refusal may depend on besides the kernel and the command.
-struct Lent<'a> {
-    chart: &'a [u8],
-    payloads_length: usize,
-    tables: &'a [u8],
-    log_length: usize,
+pub struct Lent<'a> {
+    pub chart: &'a [u8],
+    pub payloads_length: usize,
+    pub tables: Tables<'a>,
+    pub log_length: usize,
+}
+
+impl Lent<'_> {
+    const NOTHING: Lent<'static> = Lent {
+        chart: &[],
+        payloads_length: 0,
+        tables: Tables::NONE,
+        log_length: 0,
+    };
 }
 
 impl Areas<'_> {
@@ -58,8 +70,15 @@ impl Areas<'_> {
         Lent {
             chart,
             payloads_length: self.payloads.len(),
-            tables: self.tables,
+            tables: self.all_tables(),
             log_length: self.log.len(),
+        }
+    }
+
+    fn all_tables(&self) -> Tables<'_> {
+        Tables {
+            plain: self.tables,
+            guarded: self.guarded,
         }
     }
 }
@@ -85,11 +104,13 @@ impl Kernel {
         chart: &[u8],
         payloads: &mut [u8],
         tables: &mut [u8],
+        guarded: &mut [u8],
         log: &mut [u8],
     ) -> [u8; REPLY_BYTES] {
         let mut areas = Areas {
             payloads,
             tables,
+            guarded,
             log,
         };
         self.reply(record, chart, &mut areas).bytes()
@@ -99,13 +120,14 @@ impl Kernel {
         let Some(command) = Command::read(record) else {
             return Reply::refused(Refusal::Form);
         };
-        match self.refusal(&command, &areas.with_chart(chart)) {
-            None => self.carry_out(&command, chart, areas),
-            Some(Refusal::Chart) => Reply {
-                values: [chart::check(chart) as u8, 0],
+        let refusal = self.refusal(&command, &areas.with_chart(chart));
+        match (refusal, &command) {
+            (None, _) => self.carry_out(&command, chart, areas),
+            (Some(Refusal::Chart), Command::Load { slot }) => Reply {
+                values: [chart::check(edition_of(*slot), chart) as u8, 0],
                 ..Reply::refused(Refusal::Chart)
             },
-            Some(refusal) => Reply::refused(refusal),
+            (Some(refusal), _) => Reply::refused(refusal),
         }
     }
 
@@ -114,10 +136,8 @@ impl Kernel {
     /// be asked before the command or after it.
     pub fn read_part(&self, record: &[u8], payloads_length: usize) -> Range<usize> {
         let lent = Lent {
-            chart: &[],
             payloads_length,
-            tables: &[],
-            log_length: 0,
+            ..Lent::NOTHING
         };
         match Command::read(record) {
             Some(Command::Read { handle })
@@ -166,25 +186,38 @@ impl Kernel {
         to_signal.collect()
     }
 
-    /// Where the start row of a slot stands in the tables.
-    fn start_row_place(slot: u8) -> Range<usize> {
-        let begin = usize::from(slot) * SLOT_BYTES;
-        begin..begin + ROW_BYTES
-    }
-
-    /// Where the row stands that NEXT takes; nothing if nothing is queued.
-    pub fn next_row_place(&self) -> Option<Range<usize>> {
+    /// The object whose mail NEXT takes; nothing if nothing is queued.
+    pub fn next_object(&self) -> Option<u8> {
         let (p, _) = self.next_event()?;
-        self.front_row_place(p)
+        Some(p)
     }
 
-    /// Where the row stands for an object's rest and the signal of its front event.
-    pub fn front_row_place(&self, p: u8) -> Option<Range<usize>> {
+    /// How that object would answer its front event; nothing too if a table does not have its length.
+    pub fn next_reading(&self, tables: &Tables) -> Option<Reading> {
+        let (p, event) = self.next_event()?;
+        let object = self.objects.get(&p)?;
+        let table = tables.of_slot(object.slot)?;
+        let (edition, signal) = (edition_of(object.slot), self.signal_of(event));
+        let reading = chart::read_step(edition, table, object.rest, signal, &object.flags);
+        Some(reading)
+    }
+
+    /// Where the rows for an object's rest and its front event stand in the table of its slot.
+    pub fn front_rows_place(&self, p: u8) -> Option<Range<usize>> {
         let object = self.objects.get(&p)?;
         let signal = self.signal_of(object.front()?);
-        let slot = usize::from(object.slot) * SLOT_BYTES;
-        let begin = slot + chart::row_offset(object.rest, signal);
-        Some(begin..begin + ROW_BYTES)
+        let edition = edition_of(object.slot);
+        Some(chart::rows_place(edition, object.rest, signal))
+    }
+
+    /// The slot whose chart an object follows.
+    pub fn slot_of(&self, p: u8) -> Option<u8> {
+        self.objects.get(&p).map(|object| object.slot)
+    }
+
+    /// The flags of a started object.
+    pub fn flags_of(&self, p: u8) -> Option<&Flags> {
+        self.objects.get(&p).map(|object| &object.flags)
     }
 
     pub fn step_is_open(&self) -> bool {

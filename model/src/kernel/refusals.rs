@@ -4,8 +4,9 @@ use super::command::Command::{self, *};
 use super::mail::Object;
 use super::numbers::*;
 use super::reply::Refusal;
+use super::tables::{edition_of, Tables};
 use super::{Kernel, Lent};
-use crate::chart;
+use crate::chart::{self, Edition, Found, GOOD};
 use std::collections::BTreeSet;
 
 impl Kernel {
@@ -21,21 +22,24 @@ impl Kernel {
     fn conditions(&self, command: &Command, lent: &Lent) -> Vec<(Refusal, bool)> {
         match *command {
             Load { slot } => vec![
-                (Refusal::Area, lent.tables.len() != TABLES_BYTES),
+                (Refusal::Area, lacks_tables_for(slot, &lent.tables)),
                 (Refusal::Range, !SLOTS.contains(&slot)),
                 (Refusal::Busy, self.step_is_open()),
                 (Refusal::Taken, self.is_used(slot)),
-                (Refusal::Chart, chart::check(lent.chart) != chart::GOOD),
+                (
+                    Refusal::Chart,
+                    chart::check(edition_of(slot), lent.chart) != GOOD,
+                ),
             ],
             Start { p, slot, depth } => vec![
-                (Refusal::Area, lent.tables.len() != TABLES_BYTES),
+                (Refusal::Area, lacks_tables_for(slot, &lent.tables)),
                 (Refusal::Range, !PRIORITIES.contains(&p)),
                 (Refusal::Range, !SLOTS.contains(&slot)),
                 (Refusal::Range, !DEPTHS.contains(&depth)),
                 (Refusal::Busy, self.step_is_open()),
                 (Refusal::Absent, !self.is_loaded(slot)),
                 (Refusal::Taken, self.is_started(p)),
-                (Refusal::Table, start_row_is_unsound(lent.tables, slot)),
+                (Refusal::Table, start_row_is_unsound(slot, &lent.tables)),
             ],
             New { signal, size, .. } => vec![
                 (Refusal::Area, lent.payloads_length != PAYLOADS_BYTES),
@@ -85,10 +89,11 @@ impl Kernel {
                 (Refusal::InUse, self.references(handle.block) > 0),
             ],
             Next => vec![
-                (Refusal::Area, lent.tables.len() != TABLES_BYTES),
+                (Refusal::Area, !lent.tables.have_length(Edition::Plain)),
+                (Refusal::Area, self.lacks_tables_for_next(&lent.tables)),
                 (Refusal::Busy, self.step_is_open()),
                 (Refusal::Idle, self.nothing_is_queued()),
-                (Refusal::Table, self.next_row_is_unsound(lent.tables)),
+                (Refusal::Table, self.next_row_is_unsound(&lent.tables)),
             ],
             End => vec![(Refusal::NoStep, !self.step_is_open())],
             Arm {
@@ -114,7 +119,8 @@ impl Kernel {
             ],
             // Every budget is in range.
             Drain { budget: _ } => vec![
-                (Refusal::Area, lent.tables.len() != TABLES_BYTES),
+                (Refusal::Area, !lent.tables.have_length(Edition::Plain)),
+                (Refusal::Area, !lent.tables.have_length(Edition::Guarded)),
                 (Refusal::Area, lent.log_length != LOG_BYTES),
                 (Refusal::Busy, self.step_is_open()),
             ],
@@ -131,6 +137,13 @@ impl Kernel {
                 (Refusal::Full, self.has_no_place_for_oldest(q, p)),
             ],
             Flush { q } => vec![(Refusal::Range, !SIDE_QUEUES.contains(&q))],
+            Flag { p, flag, value } => vec![
+                (Refusal::Range, !PRIORITIES.contains(&p)),
+                (Refusal::Range, !FLAGS.contains(&flag)),
+                (Refusal::Range, value > 1),
+                (Refusal::Busy, self.step_is_open()),
+                (Refusal::Absent, !self.is_started(p)),
+            ],
         }
     }
 
@@ -155,27 +168,34 @@ impl Kernel {
         self.set_aside(q) > 0 && self.free_places(p) == 0
     }
 
+    /// Whether a table is missing that NEXT reads. It does not matter whether a step is open.
+    fn lacks_tables_for_next(&self, tables: &Tables) -> bool {
+        let slot = self.next_object().and_then(|p| self.slot_of(p));
+        slot.is_some_and(|slot| lacks_tables_for(slot, tables))
+    }
+
     /// No row, no unsound row: IDLE or AREA stands for that.
-    pub(super) fn next_row_is_unsound(&self, tables: &[u8]) -> bool {
-        let row = self.next_row_place().and_then(|place| tables.get(place));
-        row.is_some_and(|row| !chart::sound(row))
+    pub(super) fn next_row_is_unsound(&self, tables: &Tables) -> bool {
+        let reading = self.next_reading(tables);
+        reading.is_some_and(|reading| reading.found == Found::Unsound)
     }
 }
 
 /// The refusals that the table gives a command, FORM included, ascending.
 pub fn refusals_of(command: &Command) -> BTreeSet<Refusal> {
-    let lent = Lent {
-        chart: &[],
-        payloads_length: 0,
-        tables: &[],
-        log_length: 0,
-    };
-    let conditions = Kernel::fresh().conditions(command, &lent);
+    let conditions = Kernel::fresh().conditions(command, &Lent::NOTHING);
     let listed = conditions.into_iter().map(|(refusal, _)| refusal);
     listed.chain([Refusal::Form]).collect()
 }
 
-fn start_row_is_unsound(tables: &[u8], slot: u8) -> bool {
-    let row = tables.get(Kernel::start_row_place(slot));
-    row.is_some_and(|row| !chart::sound(row))
+/// Whether a command about a slot finds no tables: those of slots 0 to 3 are asked for whatever the slot, that of slot 4
+/// besides them for slot 4 alone.
+fn lacks_tables_for(slot: u8, tables: &Tables) -> bool {
+    !tables.have_length(Edition::Plain) || !tables.have_length(edition_of(slot))
+}
+
+/// No table, no unsound row: AREA or RANGE stands for that.
+fn start_row_is_unsound(slot: u8, tables: &Tables) -> bool {
+    let table = tables.of_slot(slot);
+    table.is_some_and(|table| chart::read_start(edition_of(slot), table).is_none())
 }

@@ -1,10 +1,11 @@
 //! The program that replays a trace.
 
 use super::numbers::*;
-use super::Kernel;
+use super::tables::Tables;
+use super::{Kernel, Lent};
 
-/// The chart files; a missing one is an empty chart.
-pub type Charts = [Vec<u8>; 4];
+/// The chart files by slot; a missing one is an empty chart.
+pub type Charts = [Vec<u8>; 5];
 
 const LOAD: u8 = 1;
 
@@ -14,6 +15,7 @@ pub struct Program {
     charts: Charts,
     payloads: Vec<u8>,
     tables: Vec<u8>,
+    guarded: Vec<u8>,
     log: Vec<u8>,
 }
 
@@ -24,12 +26,26 @@ impl Program {
             charts,
             payloads: vec![0; PAYLOADS_BYTES],
             tables: vec![0; TABLES_BYTES],
+            guarded: vec![0; GUARDED_BYTES],
             log: vec![0; LOG_BYTES],
         }
     }
 
     pub fn kernel(&self) -> &Kernel {
         &self.kernel
+    }
+
+    /// What is lent with a record.
+    pub fn lent(&self, record: &[u8]) -> Lent<'_> {
+        Lent {
+            chart: chart_for(record, &self.charts),
+            payloads_length: self.payloads.len(),
+            tables: Tables {
+                plain: &self.tables,
+                guarded: &self.guarded,
+            },
+            log_length: self.log.len(),
+        }
     }
 
     pub fn answer(&mut self, record: &[u8]) -> [u8; REPLY_BYTES] {
@@ -44,6 +60,7 @@ impl Program {
             chart,
             &mut self.payloads,
             &mut self.tables,
+            &mut self.guarded,
             &mut self.log,
         )
     }

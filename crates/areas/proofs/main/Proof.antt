@@ -3,20 +3,21 @@ use mathlib.Core.Path.{_≡_}
 use Prim.Native.Nat.{_+_}
 use lib.ListN.{length}
 use borrow.Author.Needs.{needs}
-use Rattle.machine.specs.Numbers.{payloadBytes, tableBytes, logBytes}
+use Rattle.machine.specs.Numbers.{payloadBytes, tableBytes, guardedBytes, logBytes}
 use Rattle.state.specs.View.{Good}
 use Rattle.areas.proofs.main.Statement.{statement}
 use Rattle.areas.proofs.main.Tie as tie
 
 abbrev Inv-loop : tie.InvT-loop
-Inv-loop payloads₀ tables₀ log₀ run₀ turns₀ payloads tables log run turns =
+Inv-loop payloads₀ tables₀ guarded₀ log₀ run₀ turns₀ payloads tables guarded log run turns =
     (Good (run .kernel))
     × (length payloads ≡ payloadBytes + 1)
     × (length tables ≡ tableBytes + 1)
+    × (length guarded ≡ guardedBytes + 1)
     × (length log ≡ logBytes + 1)
 
 abbrev μ-loop : tie.MeasureT-loop
-μ-loop payloads₀ tables₀ log₀ run₀ turns₀ payloads tables log run turns = turns
+μ-loop payloads₀ tables₀ guarded₀ log₀ run₀ turns₀ payloads tables guarded log run turns = turns
 
 pub main-spec : {M : Type 1} → statement M
 main-spec =

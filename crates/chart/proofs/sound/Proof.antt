@@ -11,13 +11,19 @@ returns c = simp (ne-eqb _ _ (c .if1 .taken))
 
 returns-2 : tie.Need-returns-2
 unfolding sound
-returns-2 c = simp (eq-eqb _ _ (c .before .before .before .if1 .left), refused (c .before .is-among .ensures) (c .if2 .taken))
+returns-2 c =
+    simp (
+      eq-eqb _ _ (c .before .before .before .before .if1 .left),
+      ← c .before .before .before .most-states .ensures .0,
+      refused (c .before .is-among .ensures) (c .if2 .taken),
+    )
 
 returns-3 : tie.Need-returns-3
 unfolding sound
 returns-3 c =
     simp (
-      eq-eqb _ _ (c .before .before .before .before .before .if1 .left),
+      eq-eqb _ _ (c .before .before .before .before .before .before .if1 .left),
+      ← c .before .before .before .before .before .most-states .ensures .0,
       passed (c .before .before .before .is-among .ensures) (c .before .before .if2 .left),
       lt-leb _ _ (c .if3 .taken),
     )
@@ -26,7 +32,8 @@ returns-4 : tie.Need-returns-4
 unfolding sound
 returns-4 c =
     simp (
-      eq-eqb _ _ (c .before .before .before .before .before .before .before .before .if1 .left),
+      eq-eqb _ _ (c .before .before .before .before .before .before .before .before .before .if1 .left),
+      ← c .before .before .before .before .before .before .before .before .most-states .ensures .0,
       passed (c .before .before .before .before .before .before .is-among .ensures) (c .before .before .before .before .before .if2 .left),
       le-leb _ _ (c .before .before .before .if3 .left),
       ← c .before .wide .ensures .0,
@@ -37,16 +44,17 @@ returns-5 : tie.Need-returns-5
 unfolding sound
 returns-5 c =
     simp (
-      eq-eqb _ _ (c .before .before .before .before .before .before .before .before .before .if1 .left),
+      eq-eqb _ _ (c .before .before .before .before .before .before .before .before .before .before .if1 .left),
+      ← c .before .before .before .before .before .before .before .before .before .most-states .ensures .0,
       passed (c .before .before .before .before .before .before .before .is-among .ensures) (c .before .before .before .before .before .before .if2 .left),
       le-leb _ _ (c .before .before .before .before .if3 .left),
       ← c .before .before .wide .ensures .0,
       le-leb _ _ (c .before .if4 .left),
     )
-    (c .blank-from .ensures)
+    (c .sound-from .ensures)
 
 pub sound-spec : {M : Type 1} → statement M
 sound-spec =
     tie.close
-    (tie.spec returns (λ c. search needs) (λ c κs. search needs) returns-2 (λ c. search needs) returns-3 (λ c. search needs) (λ c κs. search needs)
-    returns-4 (λ c. search needs) (λ c κs. search needs) returns-5)
+    (tie.spec returns (λ c κs. search needs) (λ c. search needs) (λ c κs. search needs) returns-2 (λ c. search needs) returns-3 (λ c. search needs)
+    (λ c κs. search needs) returns-4 (λ c. search needs) (λ c κs. search needs) returns-5)

@@ -8,19 +8,20 @@ use Rattle.doc_cases.proofs.play_on.Statement.{statement}
 use Rattle.doc_cases.proofs.play_on.Tie as tie
 
 abbrev Inv-loop : tie.InvT-loop
-Inv-loop chart₀ payloads₀ tables₀ log₀ run₀ turns₀ chart payloads tables log run turns =
+Inv-loop chart₀ payloads₀ tables₀ guarded₀ log₀ run₀ turns₀ chart payloads tables guarded log run turns =
     (Good (run .kernel))
     × (Counts (run .written) chart)
     × (length chart ≡ length chart₀)
     × (length payloads ≡ length payloads₀)
     × (length tables ≡ length tables₀)
+    × (length guarded ≡ length guarded₀)
     × (length log ≡ length log₀)
 
 abbrev μ-loop : tie.MeasureT-loop
-μ-loop chart₀ payloads₀ tables₀ log₀ run₀ turns₀ chart payloads tables log run turns = turns
+μ-loop chart₀ payloads₀ tables₀ guarded₀ log₀ run₀ turns₀ chart payloads tables guarded log run turns = turns
 
 loop-again : tie.Need-loop-again Inv-loop μ-loop
-loop-again c = (search needs, search needs, search needs, search needs, search needs, search needs)
+loop-again c = (search needs, search needs, search needs, search needs, search needs, search needs, search needs)
 
 pub play-on-spec : {M : Type 1} → statement M
 play-on-spec =

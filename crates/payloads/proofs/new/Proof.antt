@@ -18,12 +18,12 @@ use Rattle.payloads.proofs.new.Tie as tie
 -- No block is found.
 returns-2 : tie.Need-returns-2
 unfolding new stateOf
-returns-2 c = λ t l.
+returns-2 c = λ t u l.
     let a = c .before .before .before .before .before .before .before .before .before .args in
     let x = c .before .before .wide2 .ensures .0 in
     let y = c .before .before .before .before .before .before .wide .ensures .0 in
     let f = sym (c .before .before .before .enum-told .given .1) ∙ c .before .before .before .before .before .take .ensures .answer in
-    refusal _ _ _ _ (areas _ t l) _
+    refusal _ _ _ _ (areas _ t u l) _
     (c .before .new-refusal .ensures ∙ tests-none (stateOf (a .k)) (a .spoilt) (a .payloads .now) _ _ _ _ x y f)
     (λ z. none-refused (stateOf (a .k)) (a .spoilt) (a .payloads .now) _ _ _ _ x y (sym (c .before .new-refusal .ensures) ∙ z))
     (c .refuse .ensures)
@@ -59,7 +59,7 @@ module _ (c : tie.After-new-refusal2) where
 
 returns : tie.Need-returns
 unfolding new
-returns c = λ t l. refusal _ _ _ _ (areas _ t l) _ (tests-are (c .before .before)) (c .before .if1 .taken) (c .refuse2 .ensures)
+returns c = λ t u l. refusal _ _ _ _ (areas _ t u l) _ (tests-are (c .before .before)) (c .before .if1 .taken) (c .refuse2 .ensures)
 
 new-in-requires : tie.Need-new-in-requires
 new-in-requires c κs =
@@ -72,10 +72,10 @@ new-in-requires c κs =
 
 returns-3 : tie.Need-returns-3
 unfolding new
-returns-3 c = λ t l.
+returns-3 c = λ t u l.
     let d = c .before .before .before .before .before in
-    writing _ _ _ _ (areas (start d .args .payloads .now) t l) _ (tests-are d) (areas _ t l) (c .before .before .before .before .if1 .left)
-    (rw (size-found d) (c .before .before .new-in .ensures t l))
+    writing _ _ _ _ (areas (start d .args .payloads .now) t u l) _ (tests-are d) (areas _ t u l) (c .before .before .before .before .if1 .left)
+    (rw (size-found d) (c .before .before .new-in .ensures t u l))
 
 pub new-spec : {M : Type 1} → statement M
 new-spec =

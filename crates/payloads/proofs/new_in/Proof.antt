@@ -9,7 +9,7 @@ use Rattle.payloads.proofs.new_in.Tie as tie
 
 returns : tie.Need-returns
 unfolding newIn newEvent answered stateOf
-returns c = λ t l.
+returns c = λ t u l.
     let s = c .before .before .before .before .before .before .before .before .before .before .before in
     let a = s .args in
     let n = c .before .before .before .before .before .before .before .before .wide in

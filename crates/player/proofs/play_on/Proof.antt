@@ -7,14 +7,15 @@ use Rattle.player.proofs.play_on.Statement.{statement}
 use Rattle.player.proofs.play_on.Tie as tie
 
 abbrev Inv-loop : tie.InvT-loop
-Inv-loop most folder replies payloads₀ tables₀ log₀ run₀ payloads tables log run =
+Inv-loop most folder replies payloads₀ tables₀ guarded₀ log₀ run₀ payloads tables guarded log run =
     (Good (run .kernel))
     × (length payloads ≡ length payloads₀)
     × (length tables ≡ length tables₀)
+    × (length guarded ≡ length guarded₀)
     × (length log ≡ length log₀)
 
 abbrev μ-loop : tie.MeasureT-loop
-μ-loop most folder replies payloads₀ tables₀ log₀ run₀ payloads tables log run = run .left
+μ-loop most folder replies payloads₀ tables₀ guarded₀ log₀ run₀ payloads tables guarded log run = run .left
 
 pub play-on-spec : {M : Type 1} → statement M
 play-on-spec =

@@ -65,7 +65,8 @@ mod tests {
             Command::Next,
         ];
         let records = commands.map(|command| command.record()).concat();
-        let charts: Charts = [shift(), Vec::new(), Vec::new(), Vec::new()];
+        let mut charts = Charts::default();
+        charts[0] = shift();
         let frames = frames_of(&records, &charts);
         frames
             .split_inclusive(|&byte| byte == END)
@@ -109,17 +110,17 @@ frames: 2, gaps: 1
         let stream = [
             sent(254, 8, &[]),
             sent(255, 0, &[7]),
-            sent(0, 22, &[1; 27]),
+            sent(0, 23, &[1; 27]),
             sent(1, 255, &[1; 28]),
-            sent(9, 21, &[0; 29]),
+            sent(9, 22, &[0; 29]),
         ]
         .concat();
         let expected = "254 UNSUBSCRIBE  no reply, no data
 255 command 0    no reply, data: 7
-  0 command 22   no reply, data: 1 1 1 1 1 1 1 1 1 1 1 1 1 1 1 1 1 1 1 1 1 1 1 1 1 1 1
+  0 command 23   no reply, data: 1 1 1 1 1 1 1 1 1 1 1 1 1 1 1 1 1 1 1 1 1 1 1 1 1 1 1
   1 command 255  FORM  object 1  ignored  signal 1  event 1 65793  count 1  actions 1
 something is missing here
-  9 FLUSH        no reply, data: 0 0 0 0 0 0 0 0 0 0 0 0 0 0 0 0 0 0 0 0 0 0 0 0 0 0 0 0 0
+  9 FLAG         no reply, data: 0 0 0 0 0 0 0 0 0 0 0 0 0 0 0 0 0 0 0 0 0 0 0 0 0 0 0 0 0
 frames: 5, gaps: 1
 ";
         assert_eq!(lines(&stream), expected);

@@ -1,33 +1,43 @@
 //! Calls with areas of other lengths, and with tables that others write to.
 //!
-//! They are those of the program `areas`, which keeps three areas, each one byte longer than its
+//! They are those of the program `areas`, which keeps four areas, each one byte longer than its
 //! right length, and lends so many first bytes of each as a call says. The program's own text tells
 //! how a call is written for it to read, and what its line for a call has.
 
 use super::super::random::Xorshift;
 use super::super::report::{table_sum, without_zeros};
+use super::coverage::Coverage;
+use super::exchange::Exchange;
 use super::pick::Picker;
 use super::show::told_bytes;
-use super::{random_chart, random_charts};
-use crate::chart::{FIRST_SIGNAL, LAST_SIGNAL, MOST_ACTIONS, ROW_BYTES, SLOT_BYTES};
+use super::{hard_chart, random_chart, random_charts};
+use crate::chart::{Edition, FIRST_SIGNAL, LAST_SIGNAL, MOST_ACTIONS, ROW_BYTES};
 use crate::kernel::numbers::*;
 use crate::kernel::replay::{chart_for, Charts};
-use crate::kernel::Kernel;
+use crate::kernel::tables::{edition_of, place_of, Tables};
+use crate::kernel::{Kernel, Lent};
 
-/// Pokes may spoil a run for good, so each has an end.
-const CALLS_PER_RUN: usize = 250;
+/// Of the payloads, the tables, the guarded table and the log.
+const RIGHT_LENGTHS: [usize; 4] = [PAYLOADS_BYTES, TABLES_BYTES, GUARDED_BYTES, LOG_BYTES];
+
+/// A place in the tables of edition one, or in that of edition two.
+#[derive(Clone, Copy)]
+struct Place {
+    edition: Edition,
+    offset: usize,
+}
 
 /// A byte that somebody else writes to the tables.
 #[derive(Clone, Copy)]
 struct Poke {
-    offset: usize,
+    place: Place,
     byte: u8,
 }
 
 struct Call {
     record: Vec<u8>,
-    /// Of the payloads, the tables and the log.
-    lengths: [usize; 3],
+    /// In the order of the right ones.
+    lengths: [usize; 4],
     poke: Option<Poke>,
 }
 
@@ -37,6 +47,7 @@ struct Bench {
     charts: Charts,
     payloads: Vec<u8>,
     tables: Vec<u8>,
+    guarded: Vec<u8>,
     log: Vec<u8>,
 }
 
@@ -47,22 +58,52 @@ impl Bench {
             charts,
             payloads: vec![0; PAYLOADS_BYTES + 1],
             tables: vec![0; TABLES_BYTES + 1],
+            guarded: vec![0; GUARDED_BYTES + 1],
             log: vec![0; LOG_BYTES + 1],
         }
     }
 
     fn answer(&mut self, call: &Call) -> [u8; REPLY_BYTES] {
-        if let Some(poke) = call.poke {
-            self.tables[poke.offset] = poke.byte;
+        if let Some(Poke { place, byte }) = call.poke {
+            *self.byte_mut(place) = byte;
         }
-        let [payloads, tables, log] = call.lengths;
+        let [payloads, tables, guarded, log] = call.lengths;
         self.kernel.command(
             &call.record,
             chart_for(&call.record, &self.charts),
             &mut self.payloads[..payloads],
             &mut self.tables[..tables],
+            &mut self.guarded[..guarded],
             &mut self.log[..log],
         )
+    }
+
+    /// What the call was lent.
+    fn lent(&self, call: &Call) -> Lent<'_> {
+        let [payloads_length, tables, guarded, log_length] = call.lengths;
+        Lent {
+            chart: chart_for(&call.record, &self.charts),
+            payloads_length,
+            tables: Tables {
+                plain: &self.tables[..tables],
+                guarded: &self.guarded[..guarded],
+            },
+            log_length,
+        }
+    }
+
+    fn area(&self, edition: Edition) -> &[u8] {
+        match edition {
+            Edition::Plain => &self.tables,
+            Edition::Guarded => &self.guarded,
+        }
+    }
+
+    fn byte_mut(&mut self, place: Place) -> &mut u8 {
+        match place.edition {
+            Edition::Plain => &mut self.tables[place.offset],
+            Edition::Guarded => &mut self.guarded[place.offset],
+        }
     }
 }
 
@@ -75,17 +116,16 @@ struct Caller {
 
 impl Caller {
     fn call(&mut self, bench: &Bench) -> Call {
-        let right_lengths = [PAYLOADS_BYTES, TABLES_BYTES, LOG_BYTES];
         if self.picker.is_opening() {
             return Call {
                 record: self.picker.record(&bench.kernel).to_vec(),
-                lengths: right_lengths,
+                lengths: RIGHT_LENGTHS,
                 poke: None,
             };
         }
         Call {
             record: self.record(&bench.kernel),
-            lengths: right_lengths.map(|right| self.length(right)),
+            lengths: self.lengths(),
             poke: self.poke(bench),
         }
     }
@@ -93,9 +133,10 @@ impl Caller {
     /// Now and then another chart for a slot, so that a slot in use may meet a bad one.
     fn new_chart(&mut self) -> Option<(usize, Vec<u8>)> {
         let random = self.picker.random();
-        random
-            .percent(2)
-            .then(|| (random.below(4), random_chart(random)))
+        random.percent(2).then(|| {
+            let slot = random.pick(&[0, 1, 2, 3, 4, 4]);
+            (slot, random_chart(random, slot))
+        })
     }
 
     /// A record, now and then one of another length. After a poke it is more
@@ -114,13 +155,16 @@ impl Caller {
         record
     }
 
-    fn length(&mut self, right: usize) -> usize {
+    /// The table of slot 4 is asked for least often, so it has another length more often.
+    fn lengths(&mut self) -> [usize; 4] {
         let random = self.picker.random();
-        if random.percent(90) {
-            right
-        } else {
-            random.pick(&[0, right - 1, right + 1])
+        let mut lengths = RIGHT_LENGTHS;
+        for (length, wrong) in lengths.iter_mut().zip([7, 7, 14, 7]) {
+            if random.percent(wrong) {
+                *length = random.pick(&[0, *length - 1, *length + 1]);
+            }
         }
+        lengths
     }
 
     fn poke(&mut self, bench: &Bench) -> Option<Poke> {
@@ -129,8 +173,9 @@ impl Caller {
             Some(_) => self.repair.take_if(|_| random.percent(25)),
             None if random.percent(30) => {
                 let poke = random_poke(random, bench);
+                let Place { edition, offset } = poke.place;
                 self.repair = Some(Poke {
-                    byte: bench.tables[poke.offset],
+                    byte: bench.area(edition)[offset],
                     ..poke
                 });
                 Some(poke)
@@ -143,42 +188,116 @@ impl Caller {
 /// Changes a byte of some row; about half of the rows are unsound then.
 fn random_poke(random: &mut Xorshift, bench: &Bench) -> Poke {
     let row = random_row(random, bench);
-    let (next, outcome, count, actions) = (row, row + 1, row + 2, row + 3);
-    let listed = usize::from(bench.tables[count]).min(MOST_ACTIONS);
-    let poke = |offset, byte| Poke { offset, byte };
-    match random.below(8) {
-        0 => poke(next, random.pick(&[0, 25, 25, 255])),
-        1 => poke(next, random.pick(&[1, 2, 3, 4, 5, 23, 24])),
-        2 => poke(outcome, random.pick(&[3, 255])),
-        3 => poke(outcome, random.below(3) as u8),
-        4 => poke(count, random.pick(&[19, 255])),
-        5 => poke(count, random.below(MOST_ACTIONS + 1) as u8),
-        6 => {
-            let unused = actions + listed..row + ROW_BYTES;
+    let most_states = row.edition.most_states() as u8;
+    let (next, outcome, count, actions, flag) = (0, 1, 2, 3, 21);
+    let listed = bench.area(row.edition)[row.offset + count];
+    let listed = usize::from(listed).min(MOST_ACTIONS);
+    let (at, byte) = match random.below(12) {
+        0 | 1 => (next, random.pick(&[0, most_states + 1, 25, 255])),
+        2 | 3 => (next, random.pick(&[1, 2, 3, 4, 5, most_states])),
+        4 => (outcome, random.pick(&[3, 255])),
+        5 => (outcome, random.below(3) as u8),
+        6 => (count, random.pick(&[19, 255])),
+        7 => (count, random.below(MOST_ACTIONS + 1) as u8),
+        8 => {
+            let unused = actions + listed..ROW_BYTES;
             let any_unused = unused.start + random.below(unused.len());
-            let offset = random.pick(&[unused.start, unused.end - 1, any_unused]);
-            poke(offset, 1 + random.below(255) as u8)
+            let at = random.pick(&[unused.start, unused.end - 1, any_unused]);
+            (at, 1 + random.below(255) as u8)
         }
-        _ => poke(actions + random.below(listed.max(1)), random.byte()),
+        9 | 10 => (flag, random.pick(&[0, 1, 2, 8, 9, 255])),
+        _ => (actions + random.below(listed.max(1)), random.byte()),
+    };
+    let offset = row.offset + at;
+    let place = Place { offset, ..row };
+    Poke { place, byte }
+}
+
+/// Where a row begins: one that NEXT reads, one for the front event of an object, a start row, or any of the first states.
+fn random_row(random: &mut Xorshift, bench: &Bench) -> Place {
+    let kernel = &bench.kernel;
+    let with_mail: Vec<u8> = PRIORITIES
+        .filter(|&p| kernel.front_rows_place(p).is_some())
+        .collect();
+    match (random.below(10), kernel.next_object()) {
+        (0..4, Some(p)) => front_row(random, bench, p),
+        (4..6, Some(_)) => {
+            let p = random.pick(&with_mail);
+            front_row(random, bench, p)
+        }
+        (0..8, _) => place_in(a_slot(random, kernel), 0),
+        _ => {
+            let signals = usize::from(LAST_SIGNAL - FIRST_SIGNAL) + 1;
+            let number = 1 + random.below(5 * signals);
+            place_in(a_slot(random, kernel), number * ROW_BYTES)
+        }
     }
 }
 
-/// Where a row begins: one for the front event of an object, a start row, or any
-/// of the first states.
-fn random_row(random: &mut Xorshift, bench: &Bench) -> usize {
-    let loaded: Vec<u8> = SLOTS.filter(|&slot| bench.kernel.is_loaded(slot)).collect();
-    let slot = match loaded.is_empty() {
-        true => 0,
-        false => usize::from(random.pick(&loaded)) * SLOT_BYTES,
+/// A row for the front event of an object with mail. Of six that which decides for NEXT is likely, or the one behind it.
+fn front_row(random: &mut Xorshift, bench: &Bench, p: u8) -> Place {
+    let kernel = &bench.kernel;
+    let rows = kernel.front_rows_place(p).expect("it has mail");
+    let slot = kernel.slot_of(p).expect("it is started");
+    let tables = Tables {
+        plain: &bench.tables[..TABLES_BYTES],
+        guarded: &bench.guarded[..GUARDED_BYTES],
     };
-    let signals = usize::from(LAST_SIGNAL - FIRST_SIGNAL) + 1;
-    let row_of_a_state = slot + ROW_BYTES * (1 + random.below(5 * signals));
-    let front_rows = PRIORITIES.filter_map(|p| bench.kernel.front_row_place(p));
-    let front_rows: Vec<usize> = front_rows.map(|place| place.start).collect();
-    match random.below(10) {
-        0..6 if !front_rows.is_empty() => random.pick(&front_rows),
-        0..8 => slot,
-        _ => row_of_a_state,
+    let reading = kernel.next_reading(&tables);
+    let decides = reading.map_or(0, |reading| reading.passed_over);
+    let number = random.pick(&[0, decides, decides, decides + 1]);
+    let last = rows.len() / ROW_BYTES - 1;
+    place_in(slot, rows.start + number.min(last) * ROW_BYTES)
+}
+
+/// A loaded slot, if there is one, and often that of edition two.
+fn a_slot(random: &mut Xorshift, kernel: &Kernel) -> u8 {
+    let loaded: Vec<u8> = SLOTS.filter(|&slot| kernel.is_loaded(slot)).collect();
+    if loaded.contains(&GUARDED_SLOT) && random.percent(40) {
+        return GUARDED_SLOT;
+    }
+    match loaded.is_empty() {
+        true => 0,
+        false => random.pick(&loaded),
+    }
+}
+
+/// So many bytes behind the beginning of a slot.
+fn place_in(slot: u8, behind: usize) -> Place {
+    Place {
+        edition: edition_of(slot),
+        offset: place_of(slot).start + behind,
+    }
+}
+
+/// A call that was made, and what became of it.
+struct Made<'a> {
+    call: &'a Call,
+    is_fresh: bool,
+    reply: [u8; REPLY_BYTES],
+    before: &'a Kernel,
+    bench: &'a Bench,
+}
+
+/// Makes the calls of runs, each with a seed and so many calls, from a fresh start on.
+fn make_calls(runs: &[(u64, usize)], mut tell: impl FnMut(&Made)) {
+    for &(seed, count) in runs {
+        let (mut bench, mut caller) = fresh_run(seed);
+        for number in 0..count {
+            if let Some((slot, chart)) = caller.new_chart() {
+                bench.charts[slot] = chart;
+            }
+            let call = caller.call(&bench);
+            let before = bench.kernel.clone();
+            let reply = bench.answer(&call);
+            tell(&Made {
+                call: &call,
+                is_fresh: number == 0,
+                reply,
+                before: &before,
+                bench: &bench,
+            });
+        }
     }
 }
 
@@ -190,38 +309,41 @@ pub struct Calls {
 }
 
 impl Calls {
-    /// So many calls, in runs that begin with a fresh start.
-    pub fn random(seed: u64, count: usize) -> Self {
-        let mut random = Xorshift::new(seed);
+    pub fn random(runs: &[(u64, usize)]) -> Self {
         let mut calls = Calls::default();
-        let mut left = count;
-        while left > 0 {
-            let run = left.min(CALLS_PER_RUN);
-            calls.add_run(&mut random, run);
-            left -= run;
-        }
+        make_calls(runs, |made| {
+            let charts = &made.bench.charts;
+            calls.input.extend(sent(made.call, made.is_fresh, charts));
+            calls.lines += &line(made.call, &made.reply, made.bench);
+        });
         calls
-    }
-
-    fn add_run(&mut self, random: &mut Xorshift, count: usize) {
-        let (mut bench, mut caller) = fresh_run(random);
-        for number in 0..count {
-            if let Some((number, chart)) = caller.new_chart() {
-                bench.charts[number] = chart;
-            }
-            let call = caller.call(&bench);
-            self.input.extend(sent(&call, number == 0, &bench.charts));
-            let reply = bench.answer(&call);
-            self.lines += &line(&call, &reply, &bench);
-        }
     }
 }
 
-fn fresh_run(random: &mut Xorshift) -> (Bench, Caller) {
-    let charts = random_charts(random);
-    let own = Xorshift::new(random.below(1 << 32) as u64);
+/// What the calls of these runs come to.
+pub fn coverage(runs: &[(u64, usize)]) -> Coverage {
+    let mut coverage = Coverage::default();
+    make_calls(runs, |made| {
+        coverage.add(&Exchange {
+            record: &made.call.record,
+            reply: &made.reply,
+            before: made.before,
+            after: &made.bench.kernel,
+            lent: made.bench.lent(made.call),
+        });
+    });
+    coverage
+}
+
+fn fresh_run(seed: u64) -> (Bench, Caller) {
+    let mut random = Xorshift::new(seed);
+    let mut charts = random_charts(&mut random);
+    if random.percent(60) {
+        // Slot 4 is what most of the calls are about that no replay shows.
+        charts[usize::from(GUARDED_SLOT)] = hard_chart(&mut random, Edition::Guarded);
+    }
     let caller = Caller {
-        picker: Picker::new(own, &charts),
+        picker: Picker::new(random, &charts),
         repair: None,
     };
     (Bench::fresh(charts), caller)
@@ -237,29 +359,40 @@ fn sent(call: &Call, is_fresh: bool, charts: &Charts) -> Vec<u8> {
             .expect("two bytes hold it")
             .to_le_bytes()
     };
-    let poke = call.poke.unwrap_or(Poke { offset: 0, byte: 0 });
+    let (area, offset, poked) = match call.poke {
+        None => (0, 0, 0),
+        Some(Poke { place, byte }) => (number_of(place.edition), place.offset, byte),
+    };
     let mut sent = vec![
         u8::from(is_fresh),
         byte(call.record.len()),
         byte(given.len()),
     ];
     sent.extend(call.lengths.map(two).concat());
-    sent.push(u8::from(call.poke.is_some()));
-    sent.extend(two(poke.offset));
-    sent.push(poke.byte);
+    sent.push(area);
+    sent.extend(two(offset));
+    sent.push(poked);
     sent.extend(two(chart.len()));
     sent.extend(given);
     sent.extend(chart);
     sent
 }
 
+/// Which area somebody else writes to; 0 stands for none.
+fn number_of(edition: Edition) -> u8 {
+    match edition {
+        Edition::Plain => 1,
+        Edition::Guarded => 2,
+    }
+}
+
 /// The line of a call. The bench is that after it.
 fn line(call: &Call, reply: &[u8; REPLY_BYTES], bench: &Bench) -> String {
-    let areas = [&bench.payloads, &bench.tables, &bench.log];
-    let [payloads, tables, log] = areas.map(|area| table_sum(area));
+    let areas = [&bench.payloads, &bench.tables, &bench.guarded, &bench.log];
+    let [payloads, tables, guarded, log] = areas.map(|area| table_sum(area));
     let part = &bench.payloads[bench.kernel.read_part(&call.record, call.lengths[0])];
     format!(
-        "{} payloads {payloads} tables {tables} log {log} part {} sum {}\n",
+        "{} payloads {payloads} tables {tables} guarded {guarded} log {log} part {} sum {}\n",
         told_bytes(reply),
         part.len(),
         table_sum(part),
@@ -268,7 +401,7 @@ fn line(call: &Call, reply: &[u8; REPLY_BYTES], bench: &Bench) -> String {
 
 #[cfg(test)]
 mod tests {
-    use super::super::coverage::Coverage;
+    use super::super::coverage::cases::IN_CALLS;
     use super::*;
     use crate::kernel::reply::Refusal;
 
@@ -281,29 +414,35 @@ mod tests {
 
     /// The call at the front of an input, whether it is a fresh start, and its chart.
     fn take_call<'a>(input: &mut &'a [u8]) -> (Call, bool, &'a [u8]) {
-        let head = take(input, 15);
+        let head = take(input, 17);
         let two = |at: usize| usize::from(u16::from_le_bytes([head[at], head[at + 1]]));
         let mut record = vec![0; usize::from(head[1])];
         let given = take(input, usize::from(head[2]));
         record[..given.len()].copy_from_slice(given);
-        let poke = Poke {
-            offset: two(10),
-            byte: head[12],
+        let edition = match head[11] {
+            0 => None,
+            1 => Some(Edition::Plain),
+            2 => Some(Edition::Guarded),
+            other => panic!("no area has the number {other}"),
+        };
+        let poke = |edition| {
+            let offset = two(12);
+            let place = Place { edition, offset };
+            let byte = head[14];
+            Poke { place, byte }
         };
         let call = Call {
             record,
-            lengths: [two(3), two(5), two(7)],
-            poke: (head[9] == 1).then_some(poke),
+            lengths: [two(3), two(5), two(7), two(9)],
+            poke: edition.map(poke),
         };
-        (call, head[0] == 1, take(input, two(13)))
+        (call, head[0] == 1, take(input, two(15)))
     }
 
     /// The input alone is enough to make the calls again.
     #[test]
     fn the_calls_can_be_made_again() {
-        // A little more than one run.
-        const CALLS: usize = CALLS_PER_RUN + 20;
-        let calls = Calls::random(5, CALLS);
+        let calls = Calls::random(&[(5, 250), (6, 20)]);
         let mut input = calls.input.as_slice();
         let mut bench = Bench::fresh(Charts::default());
         let mut lines = String::new();
@@ -312,34 +451,40 @@ mod tests {
             if is_fresh {
                 bench = Bench::fresh(Charts::default());
             }
-            if let [1, slot @ 0..=3, ..] = call.record[..] {
+            if let [1, slot @ 0..=4, ..] = call.record[..] {
                 bench.charts[usize::from(slot)] = chart.to_vec();
             }
             let reply = bench.answer(&call);
             lines += &line(&call, &reply, &bench);
         }
         assert_eq!(lines, calls.lines);
-        assert_eq!(lines.lines().count(), CALLS);
+        assert_eq!(lines.lines().count(), 270);
+    }
+
+    #[test]
+    fn a_call_is_written_as_the_program_reads_it() {
+        let place = Place {
+            edition: Edition::Guarded,
+            offset: 32_279,
+        };
+        let call = Call {
+            record: vec![1, 4, 0],
+            lengths: [1_536, 64_608, 32_281, 7_139],
+            poke: Some(Poke { place, byte: 9 }),
+        };
+        let mut charts = Charts::default();
+        charts[4] = vec![3; 260];
+        let head = [
+            1, 3, 2, 0, 6, 96, 252, 25, 126, 227, 27, 2, 23, 126, 9, 4, 1,
+        ];
+        let expected = [&head[..], &[1, 4], &[3; 260]].concat();
+        assert_eq!(sent(&call, true, &charts), expected);
     }
 
     #[test]
     fn the_calls_see_what_a_replay_cannot_show() {
-        let mut random = Xorshift::new(1);
-        let mut coverage = Coverage::default();
-        let (mut stopped_at_once, mut stopped_later) = (0, 0);
-        for _ in 0..40 {
-            let (mut bench, mut caller) = fresh_run(&mut random);
-            for _ in 0..CALLS_PER_RUN {
-                let call = caller.call(&bench);
-                let reply = bench.answer(&call);
-                coverage.add(&call.record, &reply);
-                match (call.record.first(), reply) {
-                    (Some(18), [0, 0, 0, 0, 0, 2, ..]) => stopped_at_once += 1,
-                    (Some(18), [0, 0, 0, 0, _, 2, ..]) => stopped_later += 1,
-                    _ => {}
-                }
-            }
-        }
+        let runs: Vec<(u64, usize)> = (0..100).map(|seed| (seed, 250)).collect();
+        let coverage = coverage(&runs);
         let area = Refusal::Area as u8;
         for command in ["LOAD", "START", "NEXT", "DRAIN", "NEW", "READ"] {
             assert!(coverage.times(command, area) > 0, "{command}");
@@ -348,7 +493,9 @@ mod tests {
         for command in ["START", "NEXT"] {
             assert!(coverage.times(command, table) > 0, "{command}");
         }
-        // A DRAIN that an unsound row stopped.
-        assert!(stopped_at_once > 0 && stopped_later > 0);
+        let unseen: Vec<_> = coverage.unseen_cases().map(|case| case.key()).collect();
+        for case in IN_CALLS {
+            assert!(!unseen.contains(&case.key()), "{:?}", case.key());
+        }
     }
 }

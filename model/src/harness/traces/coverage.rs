@@ -1,139 +1,33 @@
-//! Which answers to which commands a set of random traces has seen.
+//! Which answers to which commands a set of random traces or calls has seen.
 
+pub mod cases;
+
+use super::exchange::Exchange;
 use super::Trace;
 use crate::kernel::command::{Command, COMMAND_NAMES};
 use crate::kernel::numbers::RECORD_BYTES;
 use crate::kernel::refusals::refusals_of;
+use crate::kernel::replay::Program;
 use crate::kernel::reply::{Refusal, ANSWER_NAMES};
+use cases::{Case, IN_A_REPLAY, IN_CALLS};
 use std::collections::BTreeMap;
 use std::io::{self, Write};
 
 const DONE: u8 = 0;
 const FORM: u8 = Refusal::Form as u8;
 const AREA: u8 = Refusal::Area as u8;
-const CHART: u8 = Refusal::Chart as u8;
 const TABLE: u8 = Refusal::Table as u8;
 
 /// Records that belong to no command.
 const UNKNOWN_NUMBER: &str = "(unknown)";
 const OTHER_LENGTH: &str = "(length)";
 
-/// Something a command may come to, told by the answer and the rest of the reply.
-struct Case {
-    command: &'static str,
-    answer: u8,
-    name: &'static str,
-    shows: fn(&[u8]) -> bool,
-}
-
-const fn done(command: &'static str, name: &'static str, shows: fn(&[u8]) -> bool) -> Case {
-    Case {
-        command,
-        answer: DONE,
-        name,
-        shows,
-    }
-}
-
-const fn refused_chart(name: &'static str, shows: fn(&[u8]) -> bool) -> Case {
-    Case {
-        command: "LOAD",
-        answer: CHART,
-        name,
-        shows,
-    }
-}
-
-/// What good traces come to besides every answer; NEW's mark is byte 3, values are bytes 4 and 5, block and generation of
-/// an event bytes 24 to 27.
-const CASES: [Case; 56] = [
-    refused_chart("class 1", |reply| reply[4] == 1),
-    refused_chart("class 2", |reply| reply[4] == 2),
-    refused_chart("class 3", |reply| reply[4] == 3),
-    refused_chart("class 4", |reply| reply[4] == 4),
-    done("NEW", "block of 16 bytes", |reply| reply[24] < 32),
-    done("NEW", "block of 32 bytes", |reply| {
-        (32..48).contains(&reply[24])
-    }),
-    done("NEW", "block of 64 bytes", |reply| reply[24] >= 48),
-    done("NEW", "block used before", |reply| reply[25] > 0),
-    done("NEW", "generation above 255", |reply| reply[26] > 0),
-    done("NEW", "mark 0, block of 16 bytes", |reply| {
-        reply[3] == 0 && reply[24] < 32
-    }),
-    done("NEW", "mark 0, block of 32 bytes", |reply| {
-        reply[3] == 0 && (32..48).contains(&reply[24])
-    }),
-    done("NEW", "mark 0, block of 64 bytes", |reply| {
-        reply[3] == 0 && reply[24] >= 48
-    }),
-    done("POST", "into an empty mailbox", |reply| reply[4] == 1),
-    done("POST", "behind others", |reply| reply[4] > 1),
-    done("POSTFRONT", "into an empty mailbox", |reply| reply[4] == 1),
-    done("POSTFRONT", "before others", |reply| reply[4] > 1),
-    done("PUBLISH", "no receiver, freed", |reply| {
-        reply[4..6] == [0, 1]
-    }),
-    done("PUBLISH", "no receiver, kept", |reply| {
-        reply[4..6] == [0, 0]
-    }),
-    done("PUBLISH", "one receiver", |reply| reply[4] == 1),
-    done("PUBLISH", "several receivers", |reply| reply[4] > 1),
-    done("SUBSCRIBE", "changed", |reply| reply[4] == 1),
-    done("SUBSCRIBE", "not changed", |reply| reply[4] == 0),
-    done("UNSUBSCRIBE", "changed", |reply| reply[4] == 1),
-    done("UNSUBSCRIBE", "not changed", |reply| reply[4] == 0),
-    done("HOLD", "the fifteenth", |reply| reply[4] == 15),
-    done("RELEASE", "freed", |reply| reply[5] == 1),
-    done("RELEASE", "last hold, kept", |reply| reply[4..6] == [0, 0]),
-    done("RELEASE", "other holds left", |reply| reply[4] > 0),
-    done("NEXT", "a block", |reply| reply[24] < 128),
-    done("NEXT", "a timer", |reply| reply[24] >= 128),
-    done("NEXT", "generation above 255", |reply| reply[26] > 0),
-    done("NEXT", "ignored", |reply| reply[2] / 32 == 0),
-    done("NEXT", "internal", |reply| reply[2] / 32 == 1),
-    done("NEXT", "transition", |reply| reply[2] / 32 == 2),
-    done("END", "freed", |reply| reply[4] == 1),
-    done("END", "kept, or a timer", |reply| reply[4] == 0),
-    done("DISARM", "changed", |reply| reply[4] == 1),
-    done("DISARM", "not changed", |reply| reply[4] == 0),
-    done("TICK", "fired", |reply| reply[4] > 0),
-    done("TICK", "late", |reply| reply[5] > 0),
-    done("TICK", "fired and late", |reply| {
-        reply[4] > 0 && reply[5] > 0
-    }),
-    done("READ", "no byte", |reply| reply[4] == 0),
-    done("READ", "all bytes shown", |reply| {
-        (1..=18).contains(&reply[4])
-    }),
-    done("READ", "not all bytes shown", |reply| reply[4] > 18),
-    done("DRAIN", "no step, nothing queued", |reply| {
-        reply[4..6] == [0, 1]
-    }),
-    done("DRAIN", "steps until nothing is queued", |reply| {
-        reply[4] > 0 && reply[5] == 1
-    }),
-    done("DRAIN", "as many steps as there can be", |reply| {
-        reply[4] == 255
-    }),
-    done("DRAIN", "budget spent, more queued", |reply| {
-        reply[4] > 0 && reply[5] == 0
-    }),
-    done("DEFER", "the first", |reply| reply[4] == 1),
-    done("DEFER", "behind others", |reply| reply[4] > 1),
-    done("DEFER", "the eighth", |reply| reply[4] == 8),
-    done("RECALL", "an entry", |reply| reply[4] == 1),
-    done("RECALL", "no entry", |reply| reply[4] == 0),
-    done("FLUSH", "no entry", |reply| reply[4] == 0),
-    done("FLUSH", "some entries", |reply| (1..8).contains(&reply[4])),
-    done("FLUSH", "eight entries", |reply| reply[4] == 8),
-];
-
 /// How often each answer was given to each command, and each case came about.
 #[derive(Default)]
 pub struct Coverage {
     answers: BTreeMap<(&'static str, u8), usize>,
-    cases: BTreeMap<usize, usize>,
+    /// By command, answer and name.
+    cases: BTreeMap<(&'static str, u8, &'static str), usize>,
 }
 
 /// An answer that the documents give a command but that never came.
@@ -143,23 +37,37 @@ struct Unseen {
 }
 
 impl Coverage {
-    pub fn of_traces(first_seed: u64, count: u64, commands: usize) -> Self {
+    /// Of a trace for each seed and number of commands.
+    pub fn of_traces(traces: impl IntoIterator<Item = (u64, usize)>) -> Self {
         let mut coverage = Coverage::default();
-        for seed in first_seed..first_seed + count {
-            for (record, reply) in Trace::random(seed, commands).exchanges() {
-                coverage.add(record, reply);
-            }
+        for (seed, commands) in traces {
+            coverage.add_trace(&Trace::random(seed, commands));
         }
         coverage
     }
 
-    pub fn add(&mut self, record: &[u8], reply: &[u8]) {
-        let command = name_of(record);
-        *self.answers.entry((command, reply[0])).or_default() += 1;
-        for (index, case) in CASES.iter().enumerate() {
-            let is_meant = (case.command, case.answer) == (command, reply[0]);
-            if is_meant && (case.shows)(reply) {
-                *self.cases.entry(index).or_default() += 1;
+    fn add_trace(&mut self, trace: &Trace) {
+        let mut program = Program::fresh(trace.charts.clone());
+        for (record, _) in trace.exchanges() {
+            let before = program.kernel().clone();
+            let reply = program.answer(record);
+            self.add(&Exchange {
+                record,
+                reply: &reply,
+                before: &before,
+                after: program.kernel(),
+                lent: program.lent(record),
+            });
+        }
+    }
+
+    pub fn add(&mut self, exchange: &Exchange) {
+        let (command, answer) = (name_of(exchange.record), exchange.reply[0]);
+        *self.answers.entry((command, answer)).or_default() += 1;
+        for case in IN_A_REPLAY.iter().chain(IN_CALLS) {
+            let is_meant = (case.command, case.answer) == (command, answer);
+            if is_meant && (case.shows)(exchange) {
+                *self.cases.entry(case.key()).or_default() += 1;
             }
         }
     }
@@ -168,18 +76,39 @@ impl Coverage {
         self.answers.get(&(command, answer)).copied().unwrap_or(0)
     }
 
+    /// The cases of which there is none.
+    pub fn unseen_cases(&self) -> impl Iterator<Item = &'static Case> + '_ {
+        let all = IN_A_REPLAY.iter().chain(IN_CALLS);
+        all.filter(|case| !self.cases.contains_key(&case.key()))
+    }
+
+    /// Of replays; what they cannot come to is told with the reason.
     pub fn write(&self, out: &mut impl Write) -> io::Result<()> {
         self.write_table(out)?;
-        writeln!(out)?;
-        for (index, case) in CASES.iter().enumerate() {
-            let times = self.cases.get(&index).unwrap_or(&0);
-            writeln!(out, "{:12} {:30} {times:7}", case.command, case.name)?;
-        }
+        self.write_cases(out, IN_A_REPLAY)?;
         writeln!(out)?;
         for Unseen { command, answer } in self.unseen() {
             let name = ANSWER_NAMES[usize::from(answer)];
             let reason = why_not_in_a_replay(answer).unwrap_or("MISSING");
             writeln!(out, "{command} {name} did not occur: {reason}")?;
+        }
+        Ok(())
+    }
+
+    /// Of calls with areas of other lengths, and with tables that others write to.
+    pub fn write_calls(&self, out: &mut impl Write) -> io::Result<()> {
+        self.write_table(out)?;
+        self.write_cases(out, IN_A_REPLAY)?;
+        self.write_cases(out, IN_CALLS)
+    }
+
+    fn write_cases(&self, out: &mut impl Write, cases: &[Case]) -> io::Result<()> {
+        writeln!(out)?;
+        for case in cases {
+            let Case { command, name, .. } = case;
+            let answer = ANSWER_NAMES[usize::from(case.answer)];
+            let times = self.cases.get(&case.key()).unwrap_or(&0);
+            writeln!(out, "{command:12} {answer:7} {name:37} {times:7}")?;
         }
         Ok(())
     }
@@ -254,25 +183,49 @@ fn why_not_in_a_replay(answer: u8) -> Option<&'static str> {
 #[cfg(test)]
 mod tests {
     use super::*;
+    use std::collections::BTreeSet;
+
+    fn of_traces(seeds: std::ops::Range<u64>, commands: usize) -> Coverage {
+        Coverage::of_traces(seeds.map(|seed| (seed, commands)))
+    }
 
     #[test]
     fn traces_see_all_that_a_replay_can_show() {
         // Long enough to go on behind the longest opening.
-        let coverage = Coverage::of_traces(0, 120, 700);
+        let coverage = of_traces(0..120, 700);
         for Unseen { command, answer } in coverage.unseen() {
             assert!(why_not_in_a_replay(answer).is_some(), "{command} {answer}");
         }
-        for (index, case) in CASES.iter().enumerate() {
-            let is_seen = coverage.cases.contains_key(&index);
-            assert!(is_seen, "{} {}", case.command, case.name);
+        for case in IN_A_REPLAY {
+            let is_seen = coverage.cases.contains_key(&case.key());
+            assert!(is_seen, "{:?}", case.key());
         }
         assert!(coverage.times(OTHER_LENGTH, FORM) > 0);
         assert!(coverage.times(UNKNOWN_NUMBER, FORM) > 0);
     }
 
     #[test]
+    fn no_replay_shows_what_only_calls_can() {
+        let coverage = of_traces(200..220, 500);
+        for case in IN_CALLS {
+            assert!(
+                !coverage.cases.contains_key(&case.key()),
+                "{:?}",
+                case.key()
+            );
+        }
+    }
+
+    #[test]
+    fn each_case_has_a_name_of_its_own() {
+        let cases = || IN_A_REPLAY.iter().chain(IN_CALLS);
+        let names: BTreeSet<_> = cases().map(Case::key).collect();
+        assert_eq!(names.len(), cases().count());
+    }
+
+    #[test]
     fn no_answer_is_given_that_the_table_does_not_list() {
-        let coverage = Coverage::of_traces(100, 20, 500);
+        let coverage = of_traces(100..120, 500);
         for (command, answer) in coverage.answers.into_keys() {
             assert!(answers_of(command).contains(&answer), "{command} {answer}");
         }

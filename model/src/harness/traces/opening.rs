@@ -1,33 +1,48 @@
 //! Ways to begin a trace that random commands would hardly find.
 
 use super::super::random::Xorshift;
-use crate::chart::{check, GOOD};
+use crate::chart::{check, Edition, GOOD};
 use crate::kernel::command::{Command, Handle};
 use crate::kernel::numbers::*;
 use crate::kernel::replay::Charts;
+use crate::kernel::tables::edition_of;
 
 /// No opening, most of the time.
 pub fn random_opening(random: &mut Xorshift, charts: &Charts, signal: u8) -> Vec<Command> {
-    let good = SLOTS.zip(charts).find(|(_, chart)| check(chart) == GOOD);
-    match (random.below(100), good) {
-        (0..3, Some((slot, _))) => pile(slot, signal),
-        (3..6, Some((slot, _))) => {
+    let slots = good_slots(charts);
+    match random.below(100) {
+        0..3 if !slots.is_empty() => pile(&slots, signal),
+        3..6 if !slots.is_empty() => {
             let drained = [Command::End, Command::Drain { budget: 255 }];
-            [pile(slot, signal), drained.to_vec()].concat()
+            [pile(&slots, signal), drained.to_vec()].concat()
         }
-        (6..10, _) => many_lives(signal),
+        6..10 => many_lives(signal),
         _ => Vec::new(),
     }
 }
 
-/// One event in all 256 mailbox places, in all 64 side places, in hand, and held 15 times.
-fn pile(slot: u8, signal: u8) -> Vec<Command> {
+/// The first slot of each edition whose chart is good.
+fn good_slots(charts: &Charts) -> Vec<u8> {
+    let first_good = |edition| {
+        let mut slots = SLOTS.filter(|&slot| edition_of(slot) == edition);
+        slots.find(|&slot| check(edition, &charts[usize::from(slot)]) == GOOD)
+    };
+    Edition::ALL.into_iter().filter_map(first_good).collect()
+}
+
+/// One event in all 256 mailbox places, in all 64 side places, in hand, and held 15 times. The objects follow the charts
+/// of these slots by turns, and each has another flag up than its neighbours.
+fn pile(slots: &[u8], signal: u8) -> Vec<Command> {
     let handle = of_block_0(0);
-    let mut commands = vec![Command::Load { slot }, new_event(signal)];
-    for p in PRIORITIES {
+    let loads = slots.iter().map(|&slot| Command::Load { slot });
+    let mut commands: Vec<Command> = loads.collect();
+    commands.push(new_event(signal));
+    for (p, &slot) in PRIORITIES.zip(slots.iter().cycle()) {
         let depth = *DEPTHS.end();
+        let flag = 1 + p % FLAGS.end();
         commands.push(Command::Start { p, slot, depth });
         commands.push(Command::Subscribe { p, signal });
+        commands.push(Command::Flag { p, flag, value: 1 });
     }
     commands.extend(DEPTHS.map(|_| Command::Publish { handle }));
     commands.extend((0..MOST_HOLDS).map(|_| Command::Hold { handle }));
@@ -83,7 +98,7 @@ fn new_event(signal: u8) -> Command {
 #[cfg(test)]
 mod tests {
     use super::*;
-    use crate::harness::good::shift;
+    use crate::harness::good::{alarm, shift};
     use crate::kernel::replay::Program;
     use crate::kernel::reply::Refusal;
 
@@ -94,20 +109,23 @@ mod tests {
         }
     }
 
-    fn fresh() -> Program {
-        Program::fresh([shift(), Vec::new(), Vec::new(), Vec::new()])
+    fn charts() -> Charts {
+        [Vec::new(), shift(), Vec::new(), shift(), alarm()]
     }
 
     #[test]
     fn a_pile_has_all_references_that_an_event_can_have() {
-        let mut program = fresh();
-        send_all(&mut program, &pile(0, 31), 0);
-        assert_eq!(program.kernel().references(0), 256 + 64 + 1 + 15);
+        assert_eq!(good_slots(&charts()), [1, 4]);
+        for slots in [&[1][..], &[4], &[1, 4]] {
+            let mut program = Program::fresh(charts());
+            send_all(&mut program, &pile(slots, 31), 0);
+            assert_eq!(program.kernel().references(0), 256 + 64 + 1 + 15);
+        }
     }
 
     #[test]
     fn after_many_lives_the_first_handle_is_stale() {
-        let mut program = fresh();
+        let mut program = Program::fresh(charts());
         let commands = many_lives(31);
         // 256 times NEW and DROP, and NEW.
         let (lives, late) = commands.split_at(2 * 256 + 1);

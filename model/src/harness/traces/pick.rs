@@ -12,7 +12,7 @@ use std::ops::RangeInclusive;
 /// Makes a command for a kernel in some state.
 type Make = fn(&mut Picker, &Kernel) -> Command;
 
-const ALL: [Make; 21] = [
+const ALL: [Make; 22] = [
     Picker::load,
     Picker::start,
     Picker::new_event,
@@ -34,6 +34,7 @@ const ALL: [Make; 21] = [
     Picker::defer,
     Picker::recall,
     Picker::flush,
+    Picker::flag,
 ];
 
 /// The commands that a stretch of a trace is mostly about, and how likely each
@@ -46,6 +47,7 @@ const SETTING_UP: Mood = &[
     (Picker::start, 10),
     (Picker::subscribe, 6),
     (Picker::new_event, 2),
+    (Picker::flag, 5),
 ];
 const POSTING: Mood = &[
     (Picker::new_event, 6),
@@ -88,13 +90,21 @@ const CALLING_BACK: Mood = &[
     (Picker::set_aside, 3),
     (Picker::flush, 1),
 ];
-const READING_TABLES: Mood = &[
-    (Picker::step, 4),
-    (Picker::drain, 3),
-    (Picker::start, 2),
-    (Picker::load, 1),
+const FLAGGING: Mood = &[
+    (Picker::flag, 8),
+    (Picker::post_to_guarded, 6),
+    (Picker::step, 10),
+    (Picker::drain, 1),
+    (Picker::new_event, 2),
 ];
-const MOODS: [Mood; 20] = [
+const READING_TABLES: Mood = &[
+    (Picker::step, 8),
+    (Picker::drain, 5),
+    (Picker::start, 5),
+    (Picker::load, 2),
+    (Picker::post_to_guarded, 1),
+];
+const MOODS: [Mood; 24] = [
     SETTING_UP,
     POSTING,
     POSTING,
@@ -115,6 +125,10 @@ const MOODS: [Mood; 20] = [
     SETTING_ASIDE,
     CALLING_BACK,
     CALLING_BACK,
+    FLAGGING,
+    FLAGGING,
+    FLAGGING,
+    FLAGGING,
 ];
 
 pub struct Picker {
@@ -123,6 +137,8 @@ pub struct Picker {
     opening: std::vec::IntoIter<Command>,
     /// The few signals a trace mostly uses, so that they meet subscribers and rows.
     signals: Vec<u8>,
+    /// Those that rows of edition two ask for, and any.
+    flags: Vec<u8>,
     mood: Mood,
     left_in_mood: usize,
 }
@@ -130,12 +146,14 @@ pub struct Picker {
 impl Picker {
     pub fn new(mut random: Xorshift, charts: &Charts) -> Self {
         let signals = favourite_signals(&mut random, charts);
+        let flags = favourite_flags(&mut random, charts);
         let signal = random.pick(&signals);
         let opening = random_opening(&mut random, charts, signal);
         Picker {
             random,
             opening: opening.into_iter(),
             signals,
+            flags,
             mood: SETTING_UP,
             left_in_mood: 25,
         }
@@ -194,7 +212,7 @@ impl Picker {
     /// Sets one byte of the record; most often its form is wrong then.
     fn spoil(&mut self, record: &mut [u8; RECORD_BYTES]) {
         match self.random.below(5) {
-            0 => record[0] = self.random.pick(&[0, 22, 23, 128, 255]),
+            0 => record[0] = self.random.pick(&[0, 23, 24, 128, 255]),
             1 | 2 => record[1 + self.random.below(7)] = self.random.byte(),
             _ => record[8 + self.random.below(64)] = self.random.byte(),
         }
@@ -203,19 +221,23 @@ impl Picker {
     fn load(&mut self, _: &Kernel) -> Command {
         let slot = self.any(SLOTS);
         Command::Load {
-            slot: self.or_wrong(slot, &[4, 255]),
+            slot: self.or_wrong(slot, &[5, 255]),
         }
     }
 
     fn start(&mut self, kernel: &Kernel) -> Command {
         let p = self.mostly(PRIORITIES, |p| !kernel.is_started(p));
-        let slot = self.mostly(SLOTS, |slot| kernel.is_loaded(slot));
+        let guards = kernel.is_loaded(GUARDED_SLOT) && self.random.percent(45);
+        let slot = match guards {
+            true => GUARDED_SLOT,
+            false => self.mostly(SLOTS, |slot| kernel.is_loaded(slot)),
+        };
         // Shallow mailboxes are full sooner.
         let any_depth = self.any(DEPTHS);
         let depth = self.random.pick(&[1, 2, 3, 4, 16, any_depth]);
         Command::Start {
             p: self.or_wrong(p, &[0, 17, 255]),
-            slot: self.or_wrong(slot, &[4, 255]),
+            slot: self.or_wrong(slot, &[5, 255]),
             depth: self.or_wrong(depth, &[0, 17, 255]),
         }
     }
@@ -262,6 +284,15 @@ impl Picker {
             handle: self.handle(kernel, |block| kernel.references(block) == 0),
             p: self.started_object(kernel),
             margin: self.or_wrong(margin, &[16, 255]),
+        }
+    }
+
+    /// To an object whose flags matter, if there is one.
+    fn post_to_guarded(&mut self, kernel: &Kernel) -> Command {
+        Command::Post {
+            handle: self.handle(kernel, |_| true),
+            p: self.mostly(PRIORITIES, |p| kernel.slot_of(p) == Some(GUARDED_SLOT)),
+            margin: 0,
         }
     }
 
@@ -314,9 +345,10 @@ impl Picker {
 
     /// Goes on with the open step, or with the next one, or sees to it that there is one.
     fn step(&mut self, kernel: &Kernel) -> Command {
-        if kernel.step_is_open() {
+        let asks_too_early = self.random.percent(12);
+        if kernel.step_is_open() && !asks_too_early {
             Command::End
-        } else if kernel.next_row_place().is_some() {
+        } else if kernel.next_object().is_some() {
             Command::Next
         } else if live_blocks(kernel).is_empty() {
             self.new_event(kernel)
@@ -405,6 +437,24 @@ impl Picker {
     fn flush(&mut self, kernel: &Kernel) -> Command {
         Command::Flush {
             q: self.side_queue(|q| kernel.set_aside(q) > 0),
+        }
+    }
+
+    fn flag(&mut self, kernel: &Kernel) -> Command {
+        if kernel.step_is_open() && self.random.percent(70) {
+            return Command::End;
+        }
+        let p = match self.random.percent(70) {
+            true => self.mostly(PRIORITIES, |p| kernel.slot_of(p) == Some(GUARDED_SLOT)),
+            false => self.started_object(kernel),
+        };
+        let favourites = self.flags.clone();
+        let flag = self.mostly(FLAGS, |flag| favourites.contains(&flag));
+        let value = self.random.pick(&[0, 1, 1]);
+        Command::Flag {
+            p,
+            flag: self.or_wrong(flag, &[0, 9, 255]),
+            value: self.or_wrong(value, &[2, 255]),
         }
     }
 
@@ -509,22 +559,42 @@ fn most_set_aside(kernel: &Kernel) -> u8 {
     entries.max().expect("there are side queues")
 }
 
-/// One signal of any kind, and some for which a chart has rows.
+/// One signal of any kind, some for which a chart has rows, and some of these for which that of edition two has.
 fn favourite_signals(random: &mut Xorshift, charts: &Charts) -> Vec<u8> {
-    let records = charts
-        .iter()
-        .flat_map(|chart| chart.chunks_exact(chart::RECORD_BYTES));
-    let signals_of_rows = records.filter(|record| record[0] == 2).map(|row| row[2]);
-    let with_rows: Vec<u8> = signals_of_rows
-        .filter(|signal| SIGNALS.contains(signal))
-        .collect();
     let any: Vec<u8> = SIGNALS.collect();
-    let choices = if with_rows.is_empty() {
-        &any
-    } else {
-        &with_rows
+    let signals_of = |charts: &[Vec<u8>]| {
+        let signals = charts
+            .iter()
+            .flat_map(|chart| rows(chart))
+            .map(|row| row[2]);
+        let signals: Vec<u8> = signals.filter(|signal| SIGNALS.contains(signal)).collect();
+        if signals.is_empty() {
+            any.clone()
+        } else {
+            signals
+        }
     };
+    let with_rows = signals_of(charts);
+    let with_guarded_rows = signals_of(&charts[usize::from(GUARDED_SLOT)..]);
     let mut favourites = vec![random.pick(&any)];
-    favourites.extend((0..5).map(|_| random.pick(choices)));
+    favourites.extend((0..4).map(|_| random.pick(&with_rows)));
+    favourites.extend((0..2).map(|_| random.pick(&with_guarded_rows)));
     favourites
+}
+
+/// One flag of any number, and some that rows of the chart of edition two have.
+fn favourite_flags(random: &mut Xorshift, charts: &Charts) -> Vec<u8> {
+    let any: Vec<u8> = FLAGS.collect();
+    let flags = rows(&charts[usize::from(GUARDED_SLOT)]).map(|row| row[6]);
+    let named: Vec<u8> = flags.filter(|flag| FLAGS.contains(flag)).collect();
+    let choices = if named.is_empty() { &any } else { &named };
+    let mut favourites = vec![random.pick(&any)];
+    favourites.extend((0..4).map(|_| random.pick(choices)));
+    favourites
+}
+
+/// The records of rows, good or not.
+fn rows(chart: &[u8]) -> impl Iterator<Item = &[u8]> {
+    let records = chart.chunks_exact(chart::RECORD_BYTES);
+    records.filter(|record| record[0] == 2)
 }

@@ -243,7 +243,8 @@ mod tests {
         assert_eq!(command_name(0), None);
         assert_eq!(command_name(1), Some("LOAD"));
         assert_eq!(command_name(21), Some("FLUSH"));
-        assert_eq!(command_name(22), None);
+        assert_eq!(command_name(22), Some("FLAG"));
+        assert_eq!(command_name(23), None);
         assert_eq!(command_name(255), None);
     }
 }

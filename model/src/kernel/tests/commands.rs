@@ -1,8 +1,14 @@
 //! LOAD, START, NEW and READ.
 
 use super::*;
-use crate::chart::{parse, SLOT_BYTES};
-use crate::harness::good::smallest;
+use crate::chart::{parse, Edition};
+use crate::harness::good::{alarm, smallest};
+
+const SLOT_BYTES: usize = 16_152;
+
+fn table(edition: Edition, chart: &[u8]) -> Vec<u8> {
+    parse(edition, chart).expect("a good chart").table()
+}
 
 #[test]
 fn load_writes_its_slot_and_nothing_else() {
@@ -11,8 +17,18 @@ fn load_writes_its_slot_and_nothing_else() {
     bench.expect(Load { slot: 2 }, &[0, 0, 0, 0, 5]);
     let (before, rest) = bench.tables.split_at(2 * SLOT_BYTES);
     let (slot, after) = rest.split_at(SLOT_BYTES);
-    assert_eq!(slot, parse(&shift()).expect("a good chart").table());
-    assert!(before.iter().chain(after).all(|&byte| byte == UNTOUCHED));
+    assert_eq!(slot, table(Edition::Plain, &shift()));
+    let mut others = before.iter().chain(after).chain(&bench.guarded);
+    assert!(others.all(|&byte| byte == UNTOUCHED));
+}
+
+#[test]
+fn load_of_slot_4_writes_the_guarded_table_and_nothing_else() {
+    let mut bench = Bench::fresh();
+    bench.charts[4] = alarm();
+    bench.expect(Load { slot: 4 }, &[0, 0, 0, 0, 5]);
+    assert_eq!(bench.guarded, table(Edition::Guarded, &alarm()));
+    assert!(bench.tables.iter().all(|&byte| byte == UNTOUCHED));
 }
 
 #[test]
@@ -20,7 +36,7 @@ fn an_unused_slot_may_be_loaded_again() {
     let mut bench = Bench::with_objects(&[]);
     bench.charts[0] = smallest();
     bench.expect(Load { slot: 0 }, &[0, 0, 0, 0, 1]);
-    let table = parse(&smallest()).expect("a good chart").table();
+    let table = table(Edition::Plain, &smallest());
     assert_eq!(bench.tables[..SLOT_BYTES], table);
     // A refused chart leaves the slot as it was.
     bench.charts[0] = vec![3, 1, 0, 0, 0, 0, 0, 0];

@@ -1,7 +1,12 @@
 //! DRAIN, its log, and tables that somebody else wrote to.
 
 use super::*;
-use crate::chart::row_offset;
+use crate::chart::{rows_place, Edition};
+
+/// Where the row for a state and a signal begins in slot 0.
+fn row_offset(state: u8, signal: u8) -> usize {
+    rows_place(Edition::Plain, state, signal).start
+}
 
 /// An event of signal 31, which the shift chart ignores everywhere, queued so many times.
 fn with_mail(times: u8) -> Bench {

@@ -165,9 +165,10 @@ fn refuse_new(bench: &mut Bench) {
         }
         for length in [0, PAYLOADS_BYTES - 1, PAYLOADS_BYTES + 1] {
             let mut payloads = vec![UNTOUCHED; length];
-            let answer = bench
-                .kernel
-                .command(&record, &[], &mut payloads, &mut [], &mut []);
+            let answer =
+                bench
+                    .kernel
+                    .command(&record, &[], &mut payloads, &mut [], &mut [], &mut []);
             assert_eq!(answer, reply(&[2]));
         }
     }

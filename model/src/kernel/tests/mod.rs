@@ -3,6 +3,7 @@
 mod aside;
 mod commands;
 mod drain;
+mod flags;
 mod freeing;
 mod generations;
 mod mail;
@@ -16,7 +17,7 @@ use super::command::{Command, Handle};
 use super::numbers::*;
 use super::replay::{chart_for, replay, Charts};
 use super::Kernel;
-use crate::harness::good::shift;
+use crate::harness::good::{rounds, shift};
 use crate::harness::traces::show::shown_handle;
 use Command::*;
 
@@ -29,6 +30,7 @@ struct Bench {
     charts: Charts,
     payloads: Vec<u8>,
     tables: Vec<u8>,
+    guarded: Vec<u8>,
     log: Vec<u8>,
 }
 
@@ -36,9 +38,10 @@ impl Bench {
     fn fresh() -> Self {
         Bench {
             kernel: Kernel::fresh(),
-            charts: [shift(), Vec::new(), Vec::new(), Vec::new()],
+            charts: shift_alone(),
             payloads: vec![UNTOUCHED; PAYLOADS_BYTES],
             tables: vec![UNTOUCHED; TABLES_BYTES],
+            guarded: vec![UNTOUCHED; GUARDED_BYTES],
             log: vec![UNTOUCHED; LOG_BYTES],
         }
     }
@@ -61,6 +64,7 @@ impl Bench {
             chart_for(record, &self.charts),
             &mut self.payloads,
             &mut self.tables,
+            &mut self.guarded,
             &mut self.log,
         )
     }
@@ -90,6 +94,13 @@ impl Bench {
         let margin = 0;
         assert_eq!(self.send(Post { handle, p, margin })[0], 0);
     }
+}
+
+/// The shift chart in chart0, and no other file.
+fn shift_alone() -> Charts {
+    let mut charts = Charts::default();
+    charts[0] = shift();
+    charts
 }
 
 fn reply(begin: &[u8]) -> [u8; REPLY_BYTES] {
@@ -132,8 +143,7 @@ fn the_trace_of_the_document() {
     expected[4] = 5;
     expected[28..38].copy_from_slice(&[0, 9, 64, 4, 0, 0, 10, 11, 13, 21]);
     expected[56] = 6;
-    let charts = [shift(), Vec::new(), Vec::new(), Vec::new()];
-    assert_eq!(replay(&trace, &charts), expected);
+    assert_eq!(replay(&trace, &shift_alone()), expected);
 }
 
 #[test]
@@ -150,13 +160,14 @@ fn a_short_last_piece_is_answered_form() {
 
 #[test]
 fn load_reads_the_file_of_its_number() {
-    let charts = [Vec::new(), shift(), vec![0; 7], vec![0; 8]];
-    let loads: Vec<u8> = (0..=4).flat_map(|slot| Load { slot }.record()).collect();
+    let charts = [Vec::new(), shift(), vec![0; 7], vec![0; 8], rounds()];
+    let loads: Vec<u8> = (0..=5).flat_map(|slot| Load { slot }.record()).collect();
     let expected = [
         reply(&[14, 0, 0, 0, 1]),
         reply(&[0, 0, 0, 0, 5]),
         reply(&[14, 0, 0, 0, 1]),
         reply(&[14, 0, 0, 0, 2]),
+        reply(&[0, 0, 0, 0, 8]),
         reply(&[3]),
     ];
     assert_eq!(replay(&loads, &charts), expected.concat());

@@ -1,7 +1,7 @@
 //! The refusals: their conditions, their order, and that nothing else is written.
 
 use super::*;
-use crate::chart::row_offset;
+use crate::chart::{rows_place, Edition};
 
 const STALE: Handle = Handle {
     block: 55,
@@ -22,6 +22,10 @@ fn start(p: u8, slot: u8, depth: u8) -> Command {
     Start { p, slot, depth }
 }
 
+fn flag(p: u8, flag: u8, value: u8) -> Command {
+    Flag { p, flag, value }
+}
+
 fn post(handle: Handle, p: u8, margin: u8) -> Command {
     Post { handle, p, margin }
 }
@@ -32,10 +36,11 @@ fn every_argument_has_its_range() {
     let event = bench.new_event(4, 0);
     let no_block = handle(56, 0);
     let out_of_range = [
-        Load { slot: 4 },
+        Load { slot: 5 },
+        Load { slot: 255 },
         start(0, 0, 1),
         start(17, 0, 1),
-        start(1, 4, 1),
+        start(1, 5, 1),
         start(1, 0, 0),
         start(1, 0, 17),
         new(3, 0),
@@ -73,6 +78,13 @@ fn every_argument_has_its_range() {
         Recall { q: 0, p: 0 },
         Recall { q: 0, p: 17 },
         Flush { q: 8 },
+        flag(0, 1, 1),
+        flag(17, 1, 1),
+        flag(5, 0, 1),
+        flag(5, 9, 1),
+        flag(5, 255, 0),
+        flag(5, 1, 2),
+        flag(5, 1, 255),
     ];
     for command in out_of_range {
         bench.expect(command, &[3]);
@@ -82,10 +94,14 @@ fn every_argument_has_its_range() {
 #[test]
 fn the_ends_of_the_ranges_are_in_range() {
     let mut bench = Bench::fresh();
-    bench.charts[3] = shift();
-    bench.expect(Load { slot: 3 }, &[0, 0, 0, 0, 5]);
-    for (p, depth) in [(1, 1), (16, 16)] {
-        assert_eq!(bench.send(start(p, 3, depth))[0], 0);
+    bench.charts[4] = shift();
+    bench.expect(Load { slot: 0 }, &[0, 0, 0, 0, 5]);
+    bench.expect(Load { slot: 4 }, &[0, 0, 0, 0, 5]);
+    for (p, slot, depth) in [(1, 0, 1), (16, 4, 16)] {
+        assert_eq!(bench.send(start(p, slot, depth))[0], 0);
+    }
+    for (p, number, value) in [(1, 1, 0), (16, 8, 1)] {
+        bench.expect(flag(p, number, value), &[0, 0, 0, 0, value]);
     }
     for (signal, size) in [(4, 0), (31, 64)] {
         assert_eq!(bench.send(new(signal, size))[0], 0);
@@ -97,7 +113,7 @@ fn the_ends_of_the_ranges_are_in_range() {
 }
 
 #[test]
-fn with_a_step_open_four_commands_are_busy() {
+fn with_a_step_open_five_commands_are_busy() {
     let mut bench = Bench::with_objects(&[(5, 2)]);
     let event = bench.new_event(31, 0);
     bench.expect(End, &[5]);
@@ -111,11 +127,16 @@ fn with_a_step_open_four_commands_are_busy() {
         start(6, 1, 1),
         Next,
         Drain { budget: 0 },
+        Load { slot: 4 },
+        start(6, 4, 1),
+        flag(5, 1, 1),
+        flag(6, 1, 0),
     ];
     for command in busy {
         bench.expect(command, &[4]);
     }
-    bench.expect(Load { slot: 4 }, &[3]);
+    bench.expect(Load { slot: 5 }, &[3]);
+    bench.expect(flag(5, 9, 1), &[3]);
     let going_on = [
         new(31, 0),
         post(event, 5, 0),
@@ -193,39 +214,87 @@ fn taken_comes_before_table() {
     bench.expect(start(6, 0, 1), &[15]);
 }
 
+/// The right lengths of payloads, tables, guarded table and log.
+const LENGTHS: [usize; 4] = [PAYLOADS_BYTES, TABLES_BYTES, GUARDED_BYTES, LOG_BYTES];
+/// Where each stands among them.
+const PAYLOADS: usize = 0;
+const TABLES: usize = 1;
+const GUARDED: usize = 2;
+const LOG: usize = 3;
+
+/// The right lengths but for one area's, which is none, one less and one more.
+fn with_a_wrong_one(area: usize) -> [[usize; 4]; 3] {
+    let right = LENGTHS[area];
+    [0, right - 1, right + 1].map(|wrong| {
+        let mut lengths = LENGTHS;
+        lengths[area] = wrong;
+        lengths
+    })
+}
+
 #[test]
 fn areas_of_another_length_are_refused() {
     let mut bench = Bench::with_objects(&[(5, 1)]);
     let event = bench.new_event(31, 16);
     bench.post(event, 5);
-    let (payloads, tables, log) = (PAYLOADS_BYTES, TABLES_BYTES, LOG_BYTES);
-    let looks_at_payloads = [new(4, 0), Read { handle: event }];
-    let looks_at_tables = [Load { slot: 1 }, start(6, 0, 1), Next, Drain { budget: 1 }];
-    for command in looks_at_payloads {
-        for wrong in [0, payloads - 1, payloads + 1] {
-            assert_refused_area(&bench, command, [wrong, tables, log]);
+    let looks_at = [
+        (new(4, 0), PAYLOADS),
+        (Read { handle: event }, PAYLOADS),
+        (Load { slot: 1 }, TABLES),
+        (Load { slot: 4 }, TABLES),
+        (Load { slot: 4 }, GUARDED),
+        (start(6, 0, 1), TABLES),
+        (start(6, 4, 1), TABLES),
+        (start(6, 4, 1), GUARDED),
+        (Next, TABLES),
+        (Drain { budget: 1 }, TABLES),
+        (Drain { budget: 1 }, GUARDED),
+        (Drain { budget: 0 }, LOG),
+    ];
+    for (command, area) in looks_at {
+        for lengths in with_a_wrong_one(area) {
+            assert_refused_area(&bench, command, lengths);
         }
-    }
-    for command in looks_at_tables {
-        for wrong in [0, tables - 1, tables + 1] {
-            assert_refused_area(&bench, command, [payloads, wrong, log]);
-        }
-    }
-    for wrong in [0, log - 1, log + 1] {
-        assert_refused_area(&bench, Drain { budget: 0 }, [payloads, tables, wrong]);
     }
 }
 
 /// The command is refused with areas of these lengths, and nothing is written.
-fn assert_refused_area(bench: &Bench, command: Command, lengths: [usize; 3]) {
-    let mut kernel = bench.kernel.clone();
-    let [mut payloads, mut tables, mut log] = lengths.map(|length| vec![UNTOUCHED; length]);
-    let record = command.record();
-    let answer = kernel.command(&record, &shift(), &mut payloads, &mut tables, &mut log);
+fn assert_refused_area(bench: &Bench, command: Command, lengths: [usize; 4]) {
+    let before = &bench.kernel;
+    let (after, answer, areas) = send_with(bench, command, lengths);
     assert_eq!(answer, reply(&[2]), "{command:?}");
-    assert!(kernel == bench.kernel);
-    let mut bytes = payloads.iter().chain(&tables).chain(&log);
-    assert!(bytes.all(|&byte| byte == UNTOUCHED));
+    assert!(after == *before);
+    assert!(areas.concat().iter().all(|&byte| byte == UNTOUCHED));
+}
+
+/// What becomes of the kernel and of areas of these lengths, and the answer. The chart is a good one of both editions.
+fn send_with(
+    bench: &Bench,
+    command: Command,
+    lengths: [usize; 4],
+) -> (Kernel, [u8; REPLY_BYTES], [Vec<u8>; 4]) {
+    let mut kernel = bench.kernel.clone();
+    let mut areas = lengths.map(|length| vec![UNTOUCHED; length]);
+    let [payloads, tables, guarded, log] = &mut areas;
+    let answer = kernel.command(&command.record(), &shift(), payloads, tables, guarded, log);
+    (kernel, answer, areas)
+}
+
+#[test]
+fn the_guarded_table_is_asked_for_by_slot_4_alone() {
+    let bench = Bench::with_objects(&[(5, 1)]);
+    for lengths in with_a_wrong_one(GUARDED) {
+        let answer = |command| send_with(&bench, command, lengths).1[0];
+        assert_eq!(answer(Load { slot: 1 }), 0);
+        assert_eq!(answer(Load { slot: 0 }), 9);
+        assert_eq!(answer(Load { slot: 5 }), 3);
+        assert_eq!(answer(start(6, 1, 1)), 8);
+        assert_eq!(answer(start(6, 5, 1)), 3);
+        // The start row that is lent here is not sound.
+        assert_eq!(answer(start(6, 0, 1)), 15);
+        assert_eq!(answer(Next), 6);
+        assert_eq!(answer(flag(5, 1, 1)), 0);
+    }
 }
 
 #[test]
@@ -246,11 +315,13 @@ fn other_commands_take_areas_of_any_length() {
         arm(0, 5, 31, 1),
         Tick,
         Disarm { timer: 0 },
+        flag(5, 1, 1),
     ];
     for command in free_of_areas {
-        let answer = bench
-            .kernel
-            .command(&command.record(), &[], &mut [], &mut [], &mut []);
+        let answer =
+            bench
+                .kernel
+                .command(&command.record(), &[], &mut [], &mut [], &mut [], &mut []);
         assert_eq!(answer[0], 0, "{command:?}");
     }
     bench.expect_event(Next, &[0, 5, 31], handle(0, 0));
@@ -261,24 +332,26 @@ fn other_commands_take_areas_of_any_length() {
         (End, reply(&[0])),
     ];
     for (command, expected) in in_a_step {
-        let answer = bench
-            .kernel
-            .command(&command.record(), &[], &mut [], &mut [], &mut []);
+        let answer =
+            bench
+                .kernel
+                .command(&command.record(), &[], &mut [], &mut [], &mut [], &mut []);
         assert_eq!(answer, expected, "{command:?}");
     }
     let other = bench.new_event(31, 16);
     let dropping = Drop { handle: other }.record();
     let dropped = bench
         .kernel
-        .command(&dropping, &[], &mut [], &mut [], &mut []);
+        .command(&dropping, &[], &mut [], &mut [], &mut [], &mut []);
     assert_eq!(dropped, reply(&[0]));
 }
 
 #[test]
 fn form_comes_before_area_and_area_before_range() {
     let mut kernel = Kernel::fresh();
-    let mut send = |record: &[u8]| kernel.command(record, &[], &mut [], &mut [], &mut [])[0];
-    let mut record = Load { slot: 4 }.record();
+    let mut send =
+        |record: &[u8]| kernel.command(record, &[], &mut [], &mut [], &mut [], &mut [])[0];
+    let mut record = Load { slot: 5 }.record();
     assert_eq!(send(&record), 2);
     record[2] = 1;
     assert_eq!(send(&record), 1);
@@ -295,6 +368,6 @@ fn idle_comes_before_table() {
     let event = bench.new_event(4, 0);
     bench.post(event, 5);
     bench.expect(Next, &[15]);
-    bench.tables[row_offset(2, 4)] = 1;
+    bench.tables[rows_place(Edition::Plain, 2, 4).start] = 1;
     bench.expect_event(Next, &[0, 5, 4], handle(0, 0));
 }

@@ -15,6 +15,7 @@ fn charts() -> Charts {
         LONGER_THAN_A_CHART.to_vec(),
         FULL.to_vec(),
         Vec::new(),
+        Vec::new(),
     ]
 }
 

@@ -1,36 +1,45 @@
 use borrow.Author.Needs.{needs}
-use borrow.Author.Tests.{le-leb, lt-leb}
-use mathlib.Core.Path.{refl, ap, _∙_}
-use Prim.Native.Nat.{_≤_, _+_, _/_, _%_}
+use mathlib.Core.Path.{_∙_}
 use native.Mathlib.Omega.{arith}
-use Rattle.chart.specs.Flat.{rowNo}
-use Rattle.chart.specs.Held.{rowBytes}
-use Rattle.chart.proofs.Accepted.{accepted, step-bound}
-use Rattle.chart.proofs.Rows.{row-same}
+use Rattle.chart.proofs.Accepted.{accepted, at-most}
+use Rattle.chart.proofs.Rows.{no-absent, no-there}
 use Rattle.chart.proofs.table.row_no.Statement.{statement}
 use Rattle.chart.proofs.table.row_no.Tie as tie
-use Rattle.chart.specs.Numbers.{firstSignal, signalCount}
 
-step-of-requires : tie.Need-step-of-requires
-step-of-requires c κs =
-    let p = c .before .before .pre in
-    record { good = p .0; indexed = p .1; state = (search needs, omega (arith, p .2, c .if1 .taken)); signal = (search needs, search needs) }
+cast-row-out : tie.Need-cast-row-out
+cast-row-out c =
+    let from = c .before .before .before in
+    let h = at-most (from .args .e) _ _ (accepted (from .args .e) (from .args .chart .now) (from .pre .0) .forms) in
+    search needs
+
+row-out-requires : tie.Need-row-out-requires
+row-out-requires c κs =
+    let from = c .before .before .before .before .before in
+    let g = c .before .signal-at .ensures in (
+      record {
+        edition = from .args .e;
+        good = from .pre .0;
+        indexed = from .pre .1;
+        state = omega (arith, from .pre .2, c .before .before .if1 .taken);
+        signal = (g .1, g .2);
+      },
+      c .before .before .before .state-at .ensures .1,
+    )
 
 returns : tie.Need-returns
-unfolding rowNo
 returns c =
-    let p = c .before .before .before .pre in
-    let d = c .before .before .before .args .chart .now in
-    let s = c .before .before .before .args .k / signalCount + 1 in
-    let h : s ≤ c .before .before .before .args .n = c .before .if1 .taken in
-    let b = step-bound d (accepted d (p .0)) s (c .before .before .before .args .k % signalCount + firstSignal) (record { low = omega arith; high = omega (arith, p .2) }) in
-    rw (← p .2, le-leb s (c .before .before .before .args .n) h) (ap rowBytes (c .step-of .ensures) ∙ row-same _ b)
+    let from = c .before .before .before .before .before .before in
+    c .row-out .ensures
+    ∙ no-there (from .args .e) (from .args .chart .now) (from .args .k) _ (c .before .before .before .before .state-at .ensures .0) _ _ (c .before .before .signal-at .ensures .0) (c .before .which-at .ensures)
+    (omega (arith, from .pre .2, c .before .before .before .if1 .taken))
 
 returns-2 : tie.Need-returns-2
-unfolding rowNo rowBytes
-returns-2 c = rw (← c .before .before .before .pre .2, lt-leb _ _ (c .before .if1 .left), c .no-acts .ensures) refl
+returns-2 c =
+    let from = c .before .before .before .before in
+    c .still .ensures
+    ∙ no-absent (from .args .e) (from .args .chart .now) (from .args .k) _ (c .before .before .state-at .ensures .0) (omega (arith, from .pre .2, c .before .if1 .left))
 
 pub row-no-spec : {M : Type 1} → statement M
 row-no-spec =
     tie.close
-    (tie.spec (λ c. search needs) (λ c. search needs) (λ c. search needs) (λ c. search needs) step-of-requires returns (λ c κs. search needs) returns-2)
+    (tie.spec (λ c κs. search needs) cast-row-out (λ c κs. search needs) (λ c κs. search needs) row-out-requires returns (λ c κs. search needs) returns-2)

@@ -15,10 +15,10 @@ use Rattle.flattener.proofs.faults.forms_ok.Statement.{statement}
 use Rattle.flattener.proofs.faults.forms_ok.Tie as tie
 
 abbrev Inv-loop : tie.InvT-loop
-Inv-loop chart n e i₀ i = (i ≤ e) × ((every (formAt n chart) i e && among mostStates n) ≡ formsOk n chart)
+Inv-loop edition chart n e i₀ i = (i ≤ e) × ((every (formAt edition n chart) i e && among (mostStates edition) n) ≡ formsOk edition n chart)
 
 abbrev μ-loop : tie.MeasureT-loop
-μ-loop chart n e i₀ i = e - i
+μ-loop edition chart n e i₀ i = e - i
 
 loop-holds : tie.Need-loop-holds Inv-loop μ-loop
 unfolding formsOk
@@ -28,24 +28,28 @@ returns : tie.Need-returns Inv-loop μ-loop
 returns c =
     let d = c .before .before .before .before .before .before .before .args .chart .now in
     let n = c .before .before .before .before .before .before .before .args .n in
+    let ed = c .before .before .before .before .before .before .before .args .edition in
     let i = c .before .before .before .before .before .loop .i in
-    let q : formAt n d i ≡ false = rw (← c .before .before .kind-at .ensures, ← tail-part d (8 * i)) (refused (c .before .form-ok .ensures) (c .if1 .taken)) in
-    sym (ap (λ b. b && among mostStates n) (every-fail (formAt n d) i (length d / 8) (search needs) q)) ∙ c .before .before .before .before .before .loop .inv .1
+    let q : formAt ed n d i ≡ false = rw (← c .before .before .kind-at .ensures, ← tail-part d (8 * i)) (refused (c .before .form-ok .ensures) (c .if1 .taken)) in
+    sym (ap (λ b. b && among (mostStates ed) n) (every-fail (formAt ed n d) i (length d / 8) (search needs) q)) ∙ c .before .before .before .before .before .loop .inv .1
 
 loop-again : tie.Need-loop-again Inv-loop μ-loop
 loop-again c =
     let d = c .before .before .before .before .before .before .before .args .chart .now in
     let n = c .before .before .before .before .before .before .before .args .n in
+    let ed = c .before .before .before .before .before .before .before .args .edition in
     let i = c .before .before .before .before .before .loop .i in
-    let q : formAt n d i ≡ true = rw (← c .before .before .kind-at .ensures, ← tail-part d (8 * i)) (passed (c .before .form-ok .ensures) (c .if1 .left)) in
-    (search needs, sym (ap (λ b. b && among mostStates n) (every-pass (formAt n d) i (length d / 8) (search needs) q)) ∙ c .before .before .before .before .before .loop .inv .1)
+    let q : formAt ed n d i ≡ true = rw (← c .before .before .kind-at .ensures, ← tail-part d (8 * i)) (passed (c .before .form-ok .ensures) (c .if1 .left)) in
+    (search needs, sym (ap (λ b. b && among (mostStates ed) n) (every-pass (formAt ed n d) i (length d / 8) (search needs) q)) ∙ c .before .before .before .before .before .loop .inv .1)
 
 -- behind the loop only the number of states is left
-counted : (c : tie.After-loop Inv-loop μ-loop) → among mostStates (c .before .before .before .args .n) ≡ formsOk (c .before .before .before .args .n) (c .before .before .before .args .chart .now)
+counted : (c : tie.After-loop Inv-loop μ-loop)
+    → let from = c .before .before .before .args in among (mostStates (from .edition)) (from .n) ≡ formsOk (from .edition) (from .n) (from .chart .now)
 counted c =
     let d = c .before .before .before .args .chart .now in
     let n = c .before .before .before .args .n in
-    sym (ap (λ b. b && among mostStates n) (every-done (formAt n d) (c .before .loop .i) (length d / 8) (search needs))) ∙ c .before .loop .inv .1
+    let ed = c .before .before .before .args .edition in
+    sym (ap (λ b. b && among (mostStates ed) n) (every-done (formAt ed n d) (c .before .loop .i) (length d / 8) (search needs))) ∙ c .before .loop .inv .1
 
 returns-2 : tie.Need-returns-2 Inv-loop μ-loop
 unfolding among
@@ -53,10 +57,10 @@ returns-2 c = simp (lt-leb _ _ (c .if2 .taken)) at (counted (c .before))
 
 returns-3 : tie.Need-returns-3 Inv-loop μ-loop
 unfolding among
-returns-3 c = simp (le-leb _ _ (c .if2 .left)) at (counted (c .before))
+returns-3 c = rw (c .most-states .ensures .0) (simp (le-leb _ _ (c .before .if2 .left)) at (counted (c .before .before)))
 
 pub forms-ok-spec : {M : Type 1} → statement M
 forms-ok-spec =
     tie.close
     (tie.spec Inv-loop μ-loop loop-holds (λ c. search needs) (λ c. search needs) (λ c. search needs) (λ c. search needs) (λ c κs. search needs)
-    (λ c κs. search needs) returns (λ c. search needs) (λ c. search needs) loop-again returns-2 returns-3)
+    (λ c κs. search needs) returns (λ c. search needs) (λ c. search needs) loop-again returns-2 (λ c κs. search needs) returns-3)

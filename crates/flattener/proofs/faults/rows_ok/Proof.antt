@@ -14,10 +14,10 @@ use Rattle.flattener.proofs.faults.rows_ok.Statement.{statement}
 use Rattle.flattener.proofs.faults.rows_ok.Tie as tie
 
 abbrev Inv-loop : tie.InvT-loop
-Inv-loop chart n e i₀ before₀ i before = (n + 1 ≤ i) × (before ≡ keyBefore n chart i) × (every (rowGood n chart) i e ≡ rowsOk n chart)
+Inv-loop edition chart n e i₀ before₀ i before = (n + 1 ≤ i) × (before ≡ keyBefore n chart i) × (every (rowGood edition n chart) i e ≡ rowsOk edition n chart)
 
 abbrev μ-loop : tie.MeasureT-loop
-μ-loop chart n e i₀ before₀ i before = e - i
+μ-loop edition chart n e i₀ before₀ i before = e - i
 
 loop-holds : tie.Need-loop-holds Inv-loop μ-loop
 unfolding rowsOk
@@ -27,26 +27,28 @@ returns : tie.Need-returns Inv-loop μ-loop
 returns c =
     let d = c .before .before .before .before .before .before .args .chart .now in
     let n = c .before .before .before .before .before .before .args .n in
+    let ed = c .before .before .before .before .before .before .args .edition in
     let i = c .before .before .before .before .loop .i in
-    let q : rowGood n d i ≡ false = rw (← c .before .before .before .before .loop .inv .1, ← tail-part d (8 * i)) (refused (c .before .row-ok .ensures) (c .if1 .taken)) in
-    sym (every-fail (rowGood n d) i (length d / 8) (search needs) q) ∙ c .before .before .before .before .loop .inv .2
+    let q : rowGood ed n d i ≡ false = rw (← c .before .before .before .before .loop .inv .1, ← tail-part d (8 * i)) (refused (c .before .row-ok .ensures) (c .if1 .taken)) in
+    sym (every-fail (rowGood ed n d) i (length d / 8) (search needs) q) ∙ c .before .before .before .before .loop .inv .2
 
 loop-again : tie.Need-loop-again Inv-loop μ-loop
 loop-again c =
     let d = c .before .before .before .before .before .before .before .before .args .chart .now in
     let n = c .before .before .before .before .before .before .before .before .args .n in
+    let ed = c .before .before .before .before .before .before .before .before .args .edition in
     let at = c .before .before .before .before .before .before .loop in
     let i = at .i in
-    let q : rowGood n d i ≡ true = rw (← at .inv .1, ← tail-part d (8 * i)) (passed (c .before .before .before .row-ok .ensures) (c .before .before .if1 .left)) in (
+    let q : rowGood ed n d i ≡ true = rw (← at .inv .1, ← tail-part d (8 * i)) (passed (c .before .before .before .row-ok .ensures) (c .before .before .if1 .left)) in (
       search needs,
       rw (key-next n d i (search needs), ← tail-part d (8 * i)) (c .key-of .ensures),
-      sym (every-pass (rowGood n d) i (length d / 8) (search needs) q) ∙ at .inv .2,
+      sym (every-pass (rowGood ed n d) i (length d / 8) (search needs) q) ∙ at .inv .2,
     )
 
 returns-2 : tie.Need-returns-2 Inv-loop μ-loop
 returns-2 c =
     let d = c .before .before .before .args .chart .now in
-    sym (every-done (rowGood (c .before .before .before .args .n) d) (c .before .loop .i) (length d / 8) (search needs)) ∙ c .before .loop .inv .2
+    sym (every-done (rowGood (c .before .before .before .args .edition) (c .before .before .before .args .n) d) (c .before .loop .i) (length d / 8) (search needs)) ∙ c .before .loop .inv .2
 
 pub rows-ok-spec : {M : Type 1} → statement M
 rows-ok-spec =

@@ -14,7 +14,7 @@ returns c =
     let s = c .before .before .before .before .before .before .before .before .before .before .before in
     let r = s .args .«record» .now in
     let w : take mostBytes (drop 8 r) ≡ drop 8 r = take-all mostBytes (drop 8 r) (omega (arith, length-drop 8 r, s .pre .1)) in
-    λ d t l. rw (c .before .before .before .before .before .before .before .spoilt-new .ensures, c .before .before .before .before .before .before .before .before .arg .ensures .0, c .before .before .before .before .before .before .byte-at .ensures, c .before .before .before .before .before .byte-at2 .ensures, w) at (c .before .before .new .ensures t l)
+    λ d t u l. rw (c .before .before .before .before .before .before .before .spoilt-new .ensures, c .before .before .before .before .before .before .before .before .arg .ensures .0, c .before .before .before .before .before .before .byte-at .ensures, c .before .before .before .before .before .byte-at2 .ensures, w) at (c .before .before .new .ensures t u l)
 
 pub new-command-spec : {M : Type 1} → statement M
 new-command-spec =
