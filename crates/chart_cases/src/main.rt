@@ -71,7 +71,7 @@ fn write_row(offset: usize, part: &[u8])
     if flag == 0 {
         text::write(row);
     } else {
-        text::write(with_named(row, b" flag ", flag as u64));
+        text::write(with_named(row, b" flag ", wide(flag) as u64));
     }
 }
 
@@ -128,7 +128,8 @@ fn run_case(buffer: &mut [u8]) -> Case {
     let case = read_case(buffer);
     if case.there {
         let length = io::count(case.length as isize, buffer);
-        run_chart(case.edition, &buffer[..length], case.rows);
+        let edition = case.edition;
+        run_chart(edition, &buffer[..length], case.rows);
     }
     case
 }

@@ -1,4 +1,4 @@
--- What a step finds: the object that is to run, its event and its row; and the line of the log that it writes.
+-- What a step finds: the object that is to run, its event and its rows; and the line of the log that it writes.
 use mathlib.Core.Bool.{true, false}
 use mathlib.Core.List.{List, []}
 use mathlib.Core.Logic.{⊎-elim}
@@ -8,25 +8,30 @@ use native.Mathlib.Omega.{arith}
 use borrow.Author.Tests.{eq-eqb, ne-eqb}
 use borrow.Rule.Slice.PartMut.{putMid, midOf}
 use lib.Dec.{eqb}
-use lib.ListN.{length, getD, take, drop, length-drop, List·getD-eq-default}
-use lib.Seq.{drop-drop, length-take-le}
-use Rattle.chart.specs.Flat.{place, sound}
-use Rattle.chart.specs.Numbers.{firstSignal, rowSize, slotSize}
+use lib.ListN.{length, getD, length-drop, List·getD-eq-default}
+use lib.Seq.{length-take-le}
+use Rattle.chart.proofs.Theorems.{reading-gives, reading-row, reading-sound, row-of-answer, sound-is}
+use Rattle.chart.specs.Flags.{Flags}
+use Rattle.chart.specs.Flat.{allRead, place, rowAt}
+use Rattle.chart.specs.Held.{answerAt, isSound, reading}
+use Rattle.chart.specs.Numbers.{each, firstSignal, rowSize, slotSize}
+use Rattle.chart.specs.declared.Reading.{Reading}
+use Rattle.chart.specs.declared.read.Edition.{Edition}
 use Rattle.ground.specs.Bools.{eq-or}
 use Rattle.ground.specs.Parts.{part-over}
 use Rattle.ground.specs.Tab.{getD-tab}
-use Rattle.machine.proofs.KeepsCharts.{sound-row}
-use Rattle.machine.specs.Numbers.{objects, signalPlaces, tableBytes, mostSteps, logBytes, replyBytes}
-use Rattle.machine.specs.Reply.{IDLE, TABLE, lowest, over}
+use Rattle.machine.specs.Charts.{slotTable}
+use Rattle.machine.specs.Numbers.{objects, slots, guardedSlot, editionOf, tableBytes, guardedBytes, mostSteps, logBytes, replyBytes}
+use Rattle.machine.specs.Reply.{BothTables, IDLE, TABLE, lowest, over}
 use Rattle.machine.specs.Run.{Run, Fit, seen}
 use Rattle.machine.specs.State.{State, restOf, slotOf}
-use Rattle.machine.specs.Steps.{toRun, coming, nextRow, stepTests}
+use Rattle.machine.specs.Steps.{toRun, slotToRun, coming, signalOf, nextAnswer, nextRows, stepTests}
 use Rattle.mail.specs.Box.{boxAt, front, highest, highestOf}
 use Rattle.mail.specs.Entry.{handOf}
 use Rattle.mail.specs.View.{boxes, boxes-length, queued-in}
 use Rattle.pool.specs.Cell.{free, absent, generationOf}
 use Rattle.pool.specs.Row.{blocks, generationAt}
-use Rattle.drain.specs.Lent.{Above, Generations, Looks, Runs}
+use Rattle.drain.specs.Lent.{Above, Generations, Lies, Looks, Runs}
 use Rattle.drain.specs.declared.Coming.{Coming}
 
 -- line n of the log: the part that it takes, and how that comes back
@@ -79,58 +84,72 @@ none-of bs above (suc n) = rw (eq-eqb (length (boxAt bs n)) 0 (above n (omega ar
 pub none-is : (bs : List (List ℕ)) → Above 0 bs → 0 ≡ highest bs
 none-is bs above = sym (none-of bs above (length bs))
 
+-- The table t of slot q is as long as its edition d has it, where what is lent is as long as it should be.
+pub table-long : (tables : BothTables) (q : ℕ) (d : Edition) → d ≡ editionOf q → (t : List ℕ) → t ≡ slotTable tables q → q < slots →
+    length (tables .plain) ≡ tableBytes → (q ≡ guardedSlot → length (tables .guarded) ≡ guardedBytes) → slotSize d ≤ length t
+unfolding editionOf slotTable
+table-long tables q d o t u h plain guarded =
+    ⊎-elim
+    (λ e. rw (o, u, eq-eqb q guardedSlot e) (omega (arith, guarded e)))
+    (λ ne. rw (o, u, ne-eqb q guardedSlot ne, length-drop) (omega arith))
+    (eq-or q guardedSlot)
+
+-- What was found at rest x in the table t is what the step in the state s reads: whether it may be taken, and what it gives.
+pub record Finds (s : State) (tables : BothTables) (t : List ℕ) (x : ℕ) (found : Reading) : Type 0 where
+  pub stops : isSound found ≡ false → lowest (stepTests s tables) ≡ TABLE
+  pub steps : isSound found ≡ true → lowest (stepTests s tables) ≡ 0
+  pub gives : isSound found ≡ true → answerAt t x found ≡ nextAnswer s tables
+  pub lies : Lies t found
+
 -- The tests of a step in the state s, of which p is the object that is to run.
-module _ (s : State) (tables : List ℕ) (p : ℕ) (e : p ≡ toRun s) where
+module _ (s : State) (tables : BothTables) (p : ℕ) (e : p ≡ toRun s) where
   pub none-queued : p ≡ 0 → lowest (stepTests s tables) ≡ IDLE
   unfolding stepTests lowest
   none-queued z = rw (eq-eqb (toRun s) 0 (sym e ∙ z)) refl
 
-  module _ (ne : p ≡ 0 → ⊥) where
-    some-queued : eqb (toRun s) 0 ≡ false
-    some-queued = ne-eqb (toRun s) 0 (λ z. ne (e ∙ z))
+  -- The rows for the event that comes, in the table of the object's slot.
+  module _ (f : Fit s) (g : ℕ) (w : g ≡ signalOf s (coming s)) (x : ℕ) (r : x ≡ restOf s p) (d : Edition) (o : d ≡ editionOf (slotOf s p))
+      (t : List ℕ) (u : t ≡ slotTable tables (slotOf s p)) (long : slotSize d ≤ length t) where
+    pub rows-lie : (1 ≤ x) × (firstSignal ≤ g) × (place d x g 0 + rowSize * each d ≤ length t)
+    rows-lie =
+        let end : place d x g 0 + rowSize * each d ≤ slotSize d = rw (o, r, w, e) (f .end) in
+        (rw (r, e) (f .rested), rw w (f .signal .low), omega arith)
 
-    pub row-unsound : sound (nextRow s tables) ≡ false → lowest (stepTests s tables) ≡ TABLE
-    unfolding stepTests lowest
-    row-unsound f = rw (some-queued, f) refl
+    module _ (found : Reading) (h : found ≡ reading d (s .flags p) t (place d x g 0) (each d)) where
+      all-sound : isSound found ≡ allRead (editionOf (slotToRun s)) (s .flags (toRun s)) (nextRows s tables)
+      unfolding nextRows
+      all-sound = rw (h, o, u, r, w, e) (reading-sound _ _ _ _ _)
 
-    pub row-sound : sound (nextRow s tables) ≡ true → lowest (stepTests s tables) ≡ 0
-    unfolding stepTests lowest
-    row-sound t = rw (some-queued, t) refl
+      found-gives : isSound found ≡ true → answerAt t x found ≡ nextAnswer s tables
+      unfolding nextRows nextAnswer
+      found-gives k = rw (h, o, u, r, w, e) (reading-gives _ _ _ _ _ _ (rw (h, o, u, r, w, e) at k))
 
-  pub coming-is : (x : ℕ) → x ≡ front (s .boxes) (p - 1) → handOf x ≡ coming s
-  unfolding coming
-  coming-is x h = rw (h, e) refl
+      found-lies : Lies t found
+      found-lies at k =
+          let row = reading-row d (s .flags p) t at (each d) (place d x g 0) (sym h ∙ k) in
+          let is = sound-is d (rowAt t at) (row .0) in
+          record { within = omega (arith, row .1, rows-lie .2); outcome = is .outcome; whole = row-of-answer d (rowAt t at) is }
 
-  -- The event that comes, as it is seen, and the place of its row.
-  module _ (l : Coming) (w : Looks s (coming s) l) (f : Fit s) where
-    pub low-signal : firstSignal ≤ l .signal
-    low-signal = rw (w .signal) (f .signal .low)
+      pub finds : (p ≡ 0 → ⊥) → Finds s tables t x found
+      unfolding stepTests lowest
+      finds ne =
+          let queued : eqb (toRun s) 0 ≡ false = ne-eqb (toRun s) 0 (λ z. ne (e ∙ z)) in
+          record {
+            stops = λ k. rw (queued, ← all-sound, k) refl;
+            steps = λ k. rw (queued, ← all-sound, k) refl;
+            gives = found-gives;
+            lies = found-lies;
+          }
 
-    -- Read in the tables.
-    module _ (at : ℕ) (a : at ≡ slotSize * slotOf s p + place (restOf s p) (l .signal)) where
-      pub row-read : take (at + rowSize - at) (drop at tables) ≡ nextRow s tables
-      unfolding nextRow
-      row-read = let z : at + rowSize - at ≡ rowSize = omega arith in rw (z, a, w .signal, e) refl
+-- The event that comes to the object p that is to run.
+pub coming-is : (s : State) (p : ℕ) → p ≡ toRun s → (x : ℕ) → x ≡ front (s .boxes) (p - 1) → handOf x ≡ coming s
+unfolding coming
+coming-is s p e x h = rw (h, e) refl
 
-      pub row-end : at + rowSize ≤ tableBytes
-      row-end = rw (a, w .signal, e) (f .end)
+-- What an answer needs, of the object p that is to run.
+pub runs : (s : State) (p : ℕ) → p ≤ objects → (l : Coming) → Looks s (coming s) l → Fit s → Runs p l
+runs s p h l w f = record { object = omega arith; signal = rw (w .signal) (omega (arith, f .signal .high)) }
 
-    -- Read in the object's slot.
-    module _ (slot : List ℕ) (o : slot ≡ drop (slotSize * slotOf s p) tables) (at : ℕ) (a : at ≡ place (restOf s p) (l .signal)) where
-      pub slot-row-read : take (at + rowSize - at) (drop at slot) ≡ nextRow s tables
-      slot-row-read =
-          let z : at + rowSize - at ≡ slotSize * slotOf s p + at + rowSize - (slotSize * slotOf s p + at) = omega arith in
-          rw (z, o, drop-drop) (row-read (slotSize * slotOf s p + at) (rw a refl))
-
-      pub slot-row-end : length tables ≡ tableBytes → at + rowSize ≤ length slot
-      slot-row-end t = let h = row-end (slotSize * slotOf s p + at) (rw a refl) in rw (o, length-drop) (omega arith)
-
-    pub runs : p ≤ objects → (row : List ℕ) → sound row ≡ true → Runs p l row
-    runs h row t =
-        let g : l .signal < signalPlaces = rw (w .signal) (omega (arith, f .signal .high)) in
-        let o = sound-row row t in
-        record { object = omega arith; signal = g; long = o .0; outcome = o .1 }
-
-pub seen-generations : (gens signals seats : List ℕ) (x : Run) → Generations (seen gens signals seats x) gens
+pub seen-generations : (gens signals seats : List ℕ) (flags : ℕ → Flags) (x : Run) → Generations (seen gens signals seats flags x) gens
 unfolding generationAt generationOf
-seen-generations gens signals seats x b h = ap generationOf (getD-tab (λ k. free (getD gens k 0)) blocks b absent h)
+seen-generations gens signals seats flags x b h = ap generationOf (getD-tab (λ k. free (getD gens k 0)) blocks b absent h)

@@ -1,18 +1,18 @@
 -- A run in the midst of the steps of object p, and one step more of it.
 use mathlib.Core.List.{List}
 use mathlib.Core.Path.{_≡_, refl, sym, ap, _∙_}
-use Prim.Native.Nat.{ℕ, _+_, _*_, _-_, _<_, _≤_, min}
+use Prim.Native.Nat.{ℕ, _+_, _*_, _-_, _<_, _≤_}
 use native.Mathlib.Decide.{decLt, ℕ-discrete}
 use native.Mathlib.Omega.{arith}
 use lib.ListN.{length, getD, set, length-set}
 use lib.Seq.{getD-set-same, getD-set-other, set-getD, set-out, set-set}
-use Rattle.chart.specs.Numbers.{slotSize}
-use Rattle.machine.proofs.Run.{fit-now}
-use Rattle.machine.specs.Numbers.{replyBytes, tableBytes}
-use Rattle.machine.specs.Reply.{over, replyOf, ran}
-use Rattle.machine.specs.Run.{FitRun, Run, onward, seen}
-use Rattle.machine.specs.State.{State, restOf}
-use Rattle.machine.specs.Steps.{coming, nextRow, nextSays, logged}
+use Rattle.chart.specs.Flags.{Flags}
+use Rattle.chart.specs.Step.{Answer}
+use Rattle.machine.specs.Numbers.{replyBytes}
+use Rattle.machine.specs.Reply.{BothTables, over, replyOf, ran}
+use Rattle.machine.specs.Run.{Run, onward, seen}
+use Rattle.machine.specs.State.{State}
+use Rattle.machine.specs.Steps.{toRun, coming, nextAnswer, nextSays, logged}
 use Rattle.mail.specs.Box.{boxAt, front, highest, tookFirst}
 use Rattle.mail.specs.Laws.{changed-length, changed-other, first-front, first-length, first-more, first-none}
 use Rattle.mail.specs.View.{Holds, boxes, boxes-length, queued-in}
@@ -58,52 +58,43 @@ sized-on pl hs cs rs ts lg lg' b n z e = record {
     few k (yes h) (no l) = rw (set-out ts b (getD ts b 0 + 1) (omega arith)) (omega (arith, z .few k))
     few k (no h) d = rw (getD-set-other ts b k (getD ts b 0 + 1) 0 h) (omega (arith, z .few k))
 
--- the slot of an object that is to run begins in the tables
-pub slot-begins : (gens signals seats tables pl hs cs rs ts lg : List ℕ) (p n : ℕ) → FitRun gens signals seats tables (runAt pl hs cs rs ts lg n) →
-    Above p (boxes pl hs cs) → 0 < p → p ≤ length cs → 0 < getD cs (p - 1) 0 → length tables ≡ tableBytes → slotSize * getD seats (p - 1) 0 ≤ length tables
-slot-begins gens signals seats tables pl hs cs rs ts lg p n f above low high some t =
-    let e : p ≡ highest (boxes pl hs cs) = top-is (boxes pl hs cs) p above low (omega (arith, boxes-length pl hs cs)) (λ z. omega (arith, queued-in pl hs cs (p - 1))) in
-    let end = rw (← e) at (fit-now gens signals seats tables _ f (omega arith) .end) in
-    omega arith
-
-module _ (gens signals seats tables pl hs cs rs ts lg : List ℕ) (p from rest n : ℕ) (within : p - 1 < length cs) where
-  abbrev x : Run
-  x = midway pl hs cs rs ts lg (p - 1) from rest n
-
-  abbrev s : State
-  s = seen gens signals seats x
+-- the mailboxes, of which those from p on are empty, when object p, the next below, has taken k of its entries
+module _ (pl hs cs : List ℕ) (p k : ℕ) (within : p - 1 < length cs) where
+  abbrev bs : List (List ℕ)
+  bs = tookFirst (boxes pl hs cs) (p - 1) k
 
   among : p - 1 < length (boxes pl hs cs)
   among = omega (arith, boxes-length pl hs cs)
 
-  pub left-is : length (boxAt (x .boxes) (p - 1)) ≡ getD cs (p - 1) 0 - (n - from)
-  left-is = first-length (boxes pl hs cs) (p - 1) among (n - from) ∙ ap (λ k. k - (n - from)) (queued-in pl hs cs (p - 1))
+  pub left-is : length (boxAt bs (p - 1)) ≡ getD cs (p - 1) 0 - k
+  left-is = first-length (boxes pl hs cs) (p - 1) among k ∙ ap (λ n. n - k) (queued-in pl hs cs (p - 1))
 
-  pub front-is : getD (boxAt (boxes pl hs cs) (p - 1)) (n - from) 0 ≡ front (x .boxes) (p - 1)
-  front-is = sym (first-front (boxes pl hs cs) (p - 1) among (n - from))
+  pub front-is : getD (boxAt (boxes pl hs cs) (p - 1)) k 0 ≡ front bs (p - 1)
+  front-is = sym (first-front (boxes pl hs cs) (p - 1) among k)
 
-  pub rest-is : p - 1 < length rs → restOf s p ≡ rest
-  rest-is h = getD-set-same rs (p - 1) rest 0 h
+  module _ (low : 0 < p) (above : Above p (boxes pl hs cs)) where
+    pub above-is : Above p bs
+    above-is q h = ap length (changed-other _ (boxes pl hs cs) (p - 1) q (λ z. omega arith)) ∙ above q h
 
-  pub above-is : 0 < p → Above p (boxes pl hs cs) → Above p (x .boxes)
-  above-is low above k h = ap length (changed-other _ (boxes pl hs cs) (p - 1) k (λ z. omega arith)) ∙ above k h
+    -- as long as it has mail it is the highest
+    pub top : k < getD cs (p - 1) 0 → p ≡ highest bs
+    top h =
+        let l : length bs ≡ length cs = changed-length _ (boxes pl hs cs) (p - 1) ∙ boxes-length pl hs cs in
+        top-is bs p above-is low (omega arith) (λ z. omega (arith, left-is))
 
-  -- as long as the end of its mail, or of the budget, is not reached it is the highest with mail
-  module _ (above : Above p (boxes pl hs cs)) (end budget : ℕ) (e : end ≡ min (from + getD cs (p - 1) 0) budget) (t : n < end) (since : from ≤ n) (low : 0 < p) where
-    pub some-left : n - from < getD cs (p - 1) 0
-    some-left = omega arith
+-- one step more
+module _ (gens signals seats : List ℕ) (flags : ℕ → Flags) (tables : BothTables) (pl hs cs rs ts lg : List ℕ) (p from rest n : ℕ) where
+  abbrev x : Run
+  x = midway pl hs cs rs ts lg (p - 1) from rest n
 
-    pub top : p ≡ highest (x .boxes)
-    top =
-        let l : length (x .boxes) ≡ length cs = changed-length _ (boxes pl hs cs) (p - 1) ∙ boxes-length pl hs cs in
-        top-is (x .boxes) p (above-is low above) low (omega arith) (λ z. omega (arith, left-is))
+  abbrev s : State
+  s = seen gens signals seats flags x
 
-  -- one step more
-  pub onward-is : from ≤ n → p ≡ highest (x .boxes) → (l : Coming) → Looks s (coming s) l → (row : List ℕ) → row ≡ nextRow s tables →
+  pub onward-is : from ≤ n → p ≡ toRun s → (l : Coming) → Looks s (coming s) l → (a : Answer) → a ≡ nextAnswer s tables →
       length ts ≡ firstBytes → l .first < firstBytes →
-      midway pl hs cs rs (set ts (l .first) (getD ts (l .first) 0 + 1)) (over lg (replyBytes * n) (replyOf (ran p (l .signal) (l .first) (l .generation) row)))
-      (p - 1) from (getD row 0 0) (n + 1) ≡ onward gens signals seats tables x
+      midway pl hs cs rs (set ts (l .first) (getD ts (l .first) 0 + 1)) (over lg (replyBytes * n) (replyOf (ran p (l .signal) (l .first) (l .generation) a)))
+      (p - 1) from (a .next) (n + 1) ≡ onward gens signals seats flags tables x
   unfolding onward logged nextSays
-  onward-is since e l w row r long small =
+  onward-is since e l w a r long small =
       let z : n + 1 - from ≡ n - from + 1 = omega arith in
       rw (z, ← first-more (boxes pl hs cs) (p - 1) (n - from), once-more-set ts (l .first) long small, w .signal, w .first, w .generation, r, ← e, set-set) refl

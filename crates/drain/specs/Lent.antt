@@ -7,7 +7,7 @@ use Rattle.chart.specs.Flags.{Flags}
 use Rattle.chart.specs.Flat.{answerOf, flagAt, rowAt, rowOf}
 use Rattle.chart.specs.Numbers.{rowSize}
 use Rattle.chart.specs.declared.Reading.{Reading}
-use Rattle.chart.specs.declared.Reading.the-variants.{Taken, Ignored, Unsound}
+use Rattle.chart.specs.declared.Reading.the-variants.{Taken}
 use Rattle.machine.specs.Numbers.{objects, signalPlaces, tableBytes, guardedBytes, mostSteps, logBytes}
 use Rattle.machine.specs.Reply.{BothTables}
 use Rattle.machine.specs.Run.{Run, FitRun, runFrom}
@@ -34,16 +34,15 @@ pub record Runs (p : ℕ) (l : Coming) : Type 0 where
   pub object : p < 256
   pub signal : l .signal < signalPlaces
 
--- What was found lies in the table t: a row that is taken is that of an answer.
+-- At a place of the table t lies a row, which is that of an answer.
 pub record Placed (t : List ℕ) (at : ℕ) : Type 0 where
   pub within : at + rowSize ≤ length t
   pub outcome : getD (rowAt t at) 1 0 ≤ 2
   pub whole : rowOf (flagAt (rowAt t at)) (answerOf (rowAt t at)) ≡ rowAt t at
 
-unfoldable pub Lies : List ℕ → Reading → Type 0
-Lies t (Taken at) = Placed t at
-Lies t Ignored = Unit {0}
-Lies t Unsound = Unit {0}
+-- What was found lies in the table t, where it is a row that is taken.
+abbrev pub Lies : List ℕ → Reading → Type 0
+Lies t found = (at : ℕ) → found ≡ Taken at → Placed t at
 
 -- After n steps: the arrays have their lengths, and nothing is let go more often than there were steps.
 pub record Sized (pl hs cs rs ts lg : List ℕ) (n : ℕ) : Type 0 where

@@ -149,7 +149,7 @@ fn settle(
 
 // The steps of object p, which has mail where no higher one has, from step `from` of a run on: how many steps the run has then. The
 // state of rest and the mailbox are written back at the end.
-fn run_object(
+fn run_object<'a>(
     places: &[u16; ALL_PLACES],
     heads: &mut [u8; OBJECTS],
     counts: &mut [u8; OBJECTS],
@@ -159,8 +159,8 @@ fn run_object(
     gens: &[u32; BLOCKS],
     flags: &[u64; FLAGS],
     times: &mut [u8; FIRST_BYTES],
-    tables: &[u8],
-    guarded: &[u8],
+    tables: &'a [u8],
+    guarded: &'a [u8],
     log: &mut [u8],
     budget: usize,
     p: usize,
@@ -203,7 +203,7 @@ fn run_object(
 }
 
 // The steps of object p, if it has mail.
-fn turn(
+fn turn<'a>(
     places: &[u16; ALL_PLACES],
     heads: &mut [u8; OBJECTS],
     counts: &mut [u8; OBJECTS],
@@ -213,8 +213,8 @@ fn turn(
     gens: &[u32; BLOCKS],
     flags: &[u64; FLAGS],
     times: &mut [u8; FIRST_BYTES],
-    tables: &[u8],
-    guarded: &[u8],
+    tables: &'a [u8],
+    guarded: &'a [u8],
     log: &mut [u8],
     budget: usize,
     p: usize,
@@ -249,7 +249,7 @@ fn turn(
 }
 
 // DRAIN's steps, at most as many as the budget: how many were taken, and how often each block is to be let go.
-pub fn run(
+pub fn run<'a>(
     places: &[u16; ALL_PLACES],
     heads: &mut [u8; OBJECTS],
     counts: &mut [u8; OBJECTS],
@@ -259,8 +259,8 @@ pub fn run(
     gens: &[u32; BLOCKS],
     flags: &[u64; FLAGS],
     times: &mut [u8; FIRST_BYTES],
-    tables: &[u8],
-    guarded: &[u8],
+    tables: &'a [u8],
+    guarded: &'a [u8],
     log: &mut [u8],
     budget: usize,
 ) -> usize

@@ -1,19 +1,21 @@
 // Steps: NEXT, END, DRAIN.
 pub mod records;
 
+ghost use mathlib.Core.Bool.{cond};
 ghost use mathlib.Core.List.{List};
 ghost use mathlib.Core.Path.{_≡_};
-ghost use Prim.Native.Nat.{ℕ, _-_, _<_, _≤_};
+ghost use Prim.Native.Nat.{ℕ, _+_, _*_, _-_, _<_, _≤_};
+ghost use lib.Dec.{eqb};
 ghost use lib.ListN.{getD, length};
 ghost use Rattle.chart.specs.Flat.{place};
 ghost use Rattle.chart.specs.Held.{answerAt, reading};
-ghost use Rattle.chart.specs.Numbers.{each, slotSize};
+ghost use Rattle.chart.specs.Numbers.{each, firstSignal, rowSize};
 ghost use Rattle.machine.specs.Numbers.{tableBytes, guardedBytes, logBytes, objects, slots, editionOf};
 ghost use Rattle.machine.specs.Reply.{Areas, answer, both, done, ran};
 ghost use Rattle.machine.specs.Run.{Fit};
 ghost use Rattle.machine.specs.State.{restOf, slotOf};
 ghost use Rattle.machine.specs.Steps as machine;
-ghost use Rattle.machine.specs.Steps.{drainDone, drainFrom, ended, frees, signalOf, slotToRun, toRun};
+ghost use Rattle.machine.specs.Steps.{drainDone, drainFrom, ended, frees, toRun};
 ghost use Rattle.mail.specs.Box.{one};
 ghost use Rattle.mail.specs.Entry.{handOf};
 ghost use Rattle.mail.specs.declared.Hand.the-variants.{Nothing};
@@ -72,18 +74,16 @@ fn coming(k: Kernel, p: usize) -> Coming
     drain::look(&signals, &gens, e)
 }
 
-// The rows of object p for the signal of the event that comes, read in the table of its slot.
-fn found_in(k: Kernel, p: usize, signal: u8, table: &[u8]) -> Reading
-    requires { ⌜ (1 ≤ p) × (p ≤ objects) × (p ≡ toRun (stateOf k)) × Fit (stateOf k) × (signal ≡ signalOf (stateOf k) (machine.coming (stateOf k))) ⌝ }
-    requires { ⌜ slotSize (editionOf (slotToRun (stateOf k))) ≤ length (now table) ⌝ }
-    ensures { λ r. ⌜ let s = stateOf k in let e = editionOf (slotToRun s) in
-        r ≡ reading e (s .flags p) (now (table .entry)) (place e (restOf s p) signal 0) (each e) ⌝ }
+// What object p finds for a signal in the table of its slot.
+fn found_in(k: Kernel, p: usize, slot: usize, signal: u8, table: &[u8]) -> Reading
+    requires { ⌜ (1 ≤ p) × (p ≤ objects) × (1 ≤ restOf (stateOf k) p) × (firstSignal ≤ signal) ⌝ }
+    requires { ⌜ (let e = editionOf slot in place e (restOf (stateOf k) p) signal 0 + rowSize * each e ≤ length (now table)) ⌝ }
+    ensures { λ r. ⌜ (let e = editionOf slot in
+        r ≡ reading e (stateOf k .flags p) (now (table .entry)) (place e (restOf (stateOf k) p) signal 0) (each e)) ⌝ }
 {
     let rests = k.rests;
-    let seats = k.seats;
     let flags = k.flags;
-    let edition = edition_of(wide(seats[p - 1]));
-    chart::find_row(edition, table, rests[p - 1], signal, &flags, p)
+    chart::find_row(edition_of(slot), table, rests[p - 1], signal, &flags, p)
 }
 
 // Object p takes what was found in a table for the event that comes.
@@ -95,18 +95,15 @@ fn next_done(k: Kernel, p: usize, l: Coming, table: &[u8], found: Reading) -> An
 {
     let rests = k.rests;
     Answered {
-        kernel: step(
-            k,
-            p,
-            drain::next_rest(table, found, rests[p - 1]),
-        ),
+        kernel: step(k, p, drain::next_rest(table, found, rests[p - 1])),
         reply: drain::answer(p, l, table, found),
     }
 }
 
-// The slot of the object that is to run; one that there is not where none is.
+// The slot of object p; for 0, where no object is to run, one that there is not.
 fn slot_to_run(k: Kernel, p: usize) -> usize
-    ensures { λ r. ⌜ (p ≡ 0 → r ≡ slots) × ((p ≡ 0 → ⊥) → r ≡ slotOf (stateOf k) p) ⌝ }
+    requires { ⌜ p ≤ objects ⌝ }
+    ensures { λ r. ⌜ r ≡ cond (eqb p 0) slots (slotOf (stateOf k) p) ⌝ }
 {
     if p == 0 {
         return SLOTS;
@@ -116,7 +113,7 @@ fn slot_to_run(k: Kernel, p: usize) -> usize
 }
 
 // NEXT. The rows are read last, once there is an event that they are for.
-pub fn next(k: Kernel, spoilt: bool, tables: &[u8], guarded: &[u8]) -> Answered
+pub fn next<'a>(k: Kernel, spoilt: bool, tables: &'a [u8], guarded: &'a [u8]) -> Answered
     requires { ⌜ Good k ⌝ }
     ensures { λ r. ⌜ ((p l : List ℕ) → answered r (areas p (now (tables .entry)) (now (guarded .entry)) l)
         ≡ machine.next spoilt (stateOf k) (areas p (now (tables .entry)) (now (guarded .entry)) l)) ⌝ }
@@ -132,7 +129,7 @@ pub fn next(k: Kernel, spoilt: bool, tables: &[u8], guarded: &[u8]) -> Answered
     }
     let l = coming(k, p);
     let table = table_of(tables, guarded, slot);
-    let found = found_in(k, p, l.signal, table);
+    let found = found_in(k, p, slot, l.signal, table);
     if !drain::is_sound(found) {
         return refuse(k, TABLE);
     }
@@ -167,11 +164,11 @@ pub fn end(k: Kernel, spoilt: bool) -> Answered
 }
 
 // The steps of DRAIN over arrays of their own; then all their blocks are let go at once.
-fn drain_done(
+fn drain_done<'a>(
     mut k: Kernel,
     budget: usize,
-    tables: &[u8],
-    guarded: &[u8],
+    tables: &'a [u8],
+    guarded: &'a [u8],
     log: &mut [u8],
 ) -> Answered
     requires { ⌜ Good k × (handOf (k .hand) ≡ Nothing) × (budget < 256) ⌝ }
@@ -216,12 +213,12 @@ fn drain_done(
 }
 
 // DRAIN budget.
-pub fn drain(
+pub fn drain<'a>(
     k: Kernel,
     spoilt: bool,
     budget: usize,
-    tables: &[u8],
-    guarded: &[u8],
+    tables: &'a [u8],
+    guarded: &'a [u8],
     log: &mut [u8],
 ) -> Answered
     requires { ⌜ Good k × (budget < 256) ⌝ }
@@ -231,13 +228,7 @@ pub fn drain(
     let bad_tables = tables.len() != TABLE_AREA;
     let bad_guarded = guarded.len() != GUARDED_AREA;
     let bad_log = log.len() != LOG_AREA;
-    let no = drain_refusal(
-        spoilt,
-        bad_tables,
-        bad_guarded,
-        bad_log,
-        is_open(k.hand),
-    );
+    let no = drain_refusal(spoilt, bad_tables, bad_guarded, bad_log, is_open(k.hand));
     if no != 0 {
         return refuse(k, no);
     }

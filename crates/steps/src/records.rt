@@ -11,7 +11,7 @@ use state::Answered;
 use state::Kernel;
 
 // NEXT.
-pub fn next_command(k: Kernel, record: &[u8], tables: &[u8], guarded: &[u8]) -> Answered
+pub fn next_command<'a>(k: Kernel, record: &[u8], tables: &'a [u8], guarded: &'a [u8]) -> Answered
     requires { ⌜ Good k ⌝ }
     ensures { λ r. ⌜ ((d p l : List ℕ) → answered r (areas p (now (tables .entry)) (now (guarded .entry)) l)
         ≡ command 12 (now («record» .entry)) d (stateOf k) (areas p (now (tables .entry)) (now (guarded .entry)) l)) ⌝ }
@@ -28,23 +28,16 @@ pub fn end_command(k: Kernel, record: &[u8]) -> Answered
 }
 
 // DRAIN budget.
-pub fn drain_command(
+pub fn drain_command<'a>(
     k: Kernel,
     record: &[u8],
-    tables: &[u8],
-    guarded: &[u8],
+    tables: &'a [u8],
+    guarded: &'a [u8],
     log: &mut [u8],
 ) -> Answered
     requires { ⌜ Good k ⌝ }
     ensures { λ r. ⌜ ((d p : List ℕ) → answered r (areas p (now (tables .entry)) (now (guarded .entry)) (now (log .exit)))
         ≡ command 18 (now («record» .entry)) d (stateOf k) (areas p (now (tables .entry)) (now (guarded .entry)) (now (log .entry)))) ⌝ }
 {
-    super::drain(
-        k,
-        spoilt(record, 1),
-        arg(record, 1),
-        tables,
-        guarded,
-        log,
-    )
+    super::drain(k, spoilt(record, 1), arg(record, 1), tables, guarded, log)
 }

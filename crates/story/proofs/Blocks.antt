@@ -17,12 +17,12 @@ use Rattle.pool.specs.declared.Found.{Found}
 use Rattle.pool.specs.declared.Found.the-variants.{At, Nothing}
 use Rattle.machine.proofs.Tests.{unless-pick, fault-pick}
 use Rattle.machine.specs.Aside.{setAside, defer, recalled, recallDone, recall, letGoEach, flushed, flush}
-use Rattle.machine.specs.Charts.{load, start, startedAt}
+use Rattle.machine.specs.Charts.{load, start, startedAt, flagSet, flag}
 use Rattle.machine.specs.Clocks.{arm, armedWith, disarm, withCounter, Ticked, ticked, fire, tickTimer, tickFrom, tickDone, tick}
 use Rattle.machine.specs.Events.{newEvent, newIn, new, posted, post, postedFront, postFront, receivers, published, publishDone, publish, wanting, subscribe, unsubscribe, held, hold, released, release, dropEvent, read}
 use Rattle.machine.specs.Machine.{arg, answerTo}
-use Rattle.machine.specs.Numbers.{objects, timers}
-use Rattle.machine.specs.Reply.{Areas, Answer, answer, done, lowest, replyOf, bytes, unless}
+use Rattle.machine.specs.Numbers.{objects, timers, editionOf}
+use Rattle.machine.specs.Reply.{Areas, Answer, BothTables, answer, done, lowest, replyOf, bytes, unless}
 use Rattle.machine.specs.State.{State, signalIn, subscribed, counterOf, room}
 use Rattle.machine.specs.Steps.{stepTests, stepped, next, letGoHand, ended, end, Drained, logged, drainFrom, drainDone, drain}
 use Rattle.story.proofs.Cells.{Moves, Grown, Fallen, grown-same, fallen-same, grown-more, fallen-fewer, moves-grown, moves-fallen, moves-same, moves-dropped, moves-handed, changed-each}
@@ -58,11 +58,11 @@ module _ (c : Cell) (k : ℕ) where
   unfolding ended
   ended-fallen s f = let-go-fallen (s .hand) s f
 
-  stepped-fallen : (s : State) (tables : List ℕ) → Fallen c (at (s .cells) k) → Fallen c (at (stepped s tables .cells) k)
+  stepped-fallen : (s : State) (tables : BothTables) → Fallen c (at (s .cells) k) → Fallen c (at (stepped s tables .cells) k)
   unfolding stepped
   stepped-fallen s tables f = f
 
-  drained-fallen : (m n : ℕ) (s : State) (tables log : List ℕ) → Fallen c (at (s .cells) k) → Fallen c (at (drainFrom m n s tables log .state .cells) k)
+  drained-fallen : (m n : ℕ) (s : State) (tables : BothTables) (log : List ℕ) → Fallen c (at (s .cells) k) → Fallen c (at (drainFrom m n s tables log .state .cells) k)
   unfolding drainFrom
   drained-fallen zero n s tables log f = f
   drained-fallen (suc m) n s tables log f =
@@ -146,9 +146,9 @@ module _ (s : State) (r d : List ℕ) (z : Areas) where
 
   each : ByRecord (Moved s r) r d s z
   unfolding load start startedAt arm armedWith disarm withCounter tick tickDone new post posted postFront postedFront publish subscribe unsubscribe wanting hold held
-      release released dropEvent read next stepped end drain drainDone defer recall flush flushed replyOf bytes
+      release released dropEvent read next stepped end drain drainDone defer recall flush flushed flag flagSet replyOf bytes
   each = record {
-    load = λ e. unless-moved _ _ (fault-pick s z _ (Moved s r) (classOf d) (λ j e. same _ refl) (λ e. same _ refl));
+    load = λ e. unless-moved _ _ (fault-pick s z _ (Moved s r) (classOf (editionOf (arg r 1)) d) (λ j e. same _ refl) (λ e. same _ refl));
     start = λ e. unless-moved _ _ (same _ refl);
     new = λ e. unless-moved _ _ (new-moved e _ _ _ (found (s .cells) (arg r 2)) refl);
     post = λ e. unless-moved _ _ (gains _ (arg r 1) refl);
@@ -169,6 +169,7 @@ module _ (s : State) (r d : List ℕ) (z : Areas) where
     defer = λ e. unless-moved _ _ (defer-moved _ _ _);
     recall = λ e. unless-moved _ _ (recall-moved _ _ _);
     flush = λ e. unless-moved _ _ (falls _ (λ k. gone-fallen (at (s .cells) k) k _ s (fallen-same _)));
+    flag = λ e. unless-moved _ _ (same _ refl);
   }
 
   pub moved : Moved s r (answerTo s r d z)

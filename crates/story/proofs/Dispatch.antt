@@ -18,7 +18,7 @@ use Rattle.machine.specs.Numbers.{recordBytes, outside}
 use Rattle.machine.specs.Reply.{FORM, no, Areas, Answer, answer}
 use Rattle.machine.specs.State.{State}
 use Rattle.machine.specs.Steps
-use Rattle.story.specs.Table.{FLUSH}
+use Rattle.story.specs.Table.{FLAG}
 
 module _ (P : Answer → Type 0) where
   choose-pick : (t : Bool) (a b : Answer) → (t ≡ true → P a) → (t ≡ false → P b) → P (choose t a b)
@@ -52,6 +52,7 @@ pub record ByRecord (P : Answer → Type 0) (r d : List ℕ) (s : State) (z : Ar
   pub defer : arg r 0 ≡ 19 → P (Aside.defer (spoilt 1 r) (arg r 1) s z)
   pub recall : arg r 0 ≡ 20 → P (Aside.recall (spoilt 2 r) (arg r 1) (arg r 2) s z)
   pub flush : arg r 0 ≡ 21 → P (Aside.flush (spoilt 1 r) (arg r 1) s z)
+  pub flag : arg r 0 ≡ 22 → P (Charts.flag (spoilt 3 r) (arg r 1) (arg r 2) (arg r 3) s z)
 
 -- n is none of 1 to k.
 Beyond : ℕ → ℕ → Type 0
@@ -67,13 +68,13 @@ unfolding Beyond
 beyond-more k n (inl z) e = inl z
 beyond-more k n (inr l) e = inr (let ne = eqb-false n (suc k) e in omega arith)
 
-beyond-outside : (n : ℕ) → Beyond FLUSH n → outside 1 FLUSH n ≡ true
+beyond-outside : (n : ℕ) → Beyond FLAG n → outside 1 FLAG n ≡ true
 unfolding Beyond outside
 beyond-outside n (inl z) = rw z refl
-beyond-outside n (inr l) = or-right (ltb n 1) (ltb FLUSH n) (lt-ltb FLUSH n l)
+beyond-outside n (inr l) = or-right (ltb n 1) (ltb FLAG n) (lt-ltb FLAG n l)
 
 module _ (P : Answer → Type 0) (r d : List ℕ) (s : State) (z : Areas) (all : ByRecord P r d s z) where
-  pub by-number : (outside 1 FLUSH (arg r 0) ≡ true → P (answer s (no FORM) z)) → P (command (arg r 0) r d s z)
+  pub by-number : (outside 1 FLAG (arg r 0) ≡ true → P (answer s (no FORM) z)) → P (command (arg r 0) r d s z)
   unfolding command
   by-number form =
       one-of P (arg r 0) 1 _ _ (all .load) (λ e1.
@@ -97,12 +98,13 @@ module _ (P : Answer → Type 0) (r d : List ℕ) (s : State) (z : Areas) (all :
       (one-of P (arg r 0) 19 _ _ (all .defer) (λ e19.
       (one-of P (arg r 0) 20 _ _ (all .recall) (λ e20.
       (one-of P (arg r 0) 21 _ _ (all .flush) (λ e21.
+      (one-of P (arg r 0) 22 _ _ (all .flag) (λ e22.
       form (beyond-outside _ (
-      beyond-more 20 _ (beyond-more 19 _ (beyond-more 18 _ (
+      beyond-more 21 _ (beyond-more 20 _ (beyond-more 19 _ (beyond-more 18 _ (
       beyond-more 17 _ (beyond-more 16 _ (beyond-more 15 _ (beyond-more 14 _ (beyond-more 13 _ (beyond-more 12 _ (
       beyond-more 11 _ (beyond-more 10 _ (beyond-more 9 _ (beyond-more 8 _ (beyond-more 7 _ (beyond-more 6 _ (
       beyond-more 5 _ (beyond-more 4 _ (beyond-more 3 _ (beyond-more 2 _ (beyond-more 1 _ (beyond-more 0 _ (
-      beyond-none _) e1) e2) e3) e4) e5) e6) e7) e8) e9) e10) e11) e12) e13) e14) e15) e16) e17) e18) e19) e20) e21)))))))))))))))))))))))))))))))))))))))))))
+      beyond-none _) e1) e2) e3) e4) e5) e6) e7) e8) e9) e10) e11) e12) e13) e14) e15) e16) e17) e18) e19) e20) e21) e22)))))))))))))))))))))))))))))))))))))))))))))
 
   pub by-record : P (answer s (no FORM) z) → P (answerTo s r d z)
   unfolding answerTo

@@ -9,23 +9,23 @@ use lib.ListN.{length, take, drop}
 use Rattle.ground.specs.Bools.{cond-pick}
 use Rattle.machine.proofs.Replies.{reply-length}
 use Rattle.machine.specs.Numbers.{replyBytes}
-use Rattle.machine.specs.Reply.{lowest, replyOf}
+use Rattle.machine.specs.Reply.{BothTables, lowest, replyOf}
 use Rattle.machine.specs.State.{State}
 use Rattle.machine.specs.Steps.{stepTests, stepped, nextSays, ended, Drained, logged, drainFrom}
 use Rattle.story.proofs.Over.{over-length, over-here, over-before, over-after}
 
 -- k steps on from a state.
-unfoldable pub onward : List ℕ → ℕ → State → State
+unfoldable pub onward : BothTables → ℕ → State → State
 onward tables zero s = s
 onward tables (suc k) s = onward tables k (ended (stepped s tables))
 
-pub onward-last : (tables : List ℕ) (k : ℕ) (s : State) → onward tables (suc k) s ≡ ended (stepped (onward tables k s) tables)
+pub onward-last : (tables : BothTables) (k : ℕ) (s : State) → onward tables (suc k) s ≡ ended (stepped (onward tables k s) tables)
 unfolding onward
 onward-last tables zero s = refl
 onward-last tables (suc k) s = onward-last tables k (ended (stepped s tables))
 
 -- What DRAIN comes to in m steps of at most k, after n.
-pub record Comes (tables : List ℕ) (k n : ℕ) (s : State) (log : List ℕ) (x : Drained) (m : ℕ) : Type 0 where
+pub record Comes (tables : BothTables) (k n : ℕ) (s : State) (log : List ℕ) (x : Drained) (m : ℕ) : Type 0 where
   pub steps : x .steps ≡ n + m
   pub most : m ≤ k
   pub state : x .state ≡ onward tables m s
@@ -36,7 +36,7 @@ pub record Comes (tables : List ℕ) (k n : ℕ) (s : State) (log : List ℕ) (x
   pub before : (j : ℕ) → j + replyBytes ≤ replyBytes * n → take replyBytes (drop j (x .log)) ≡ take replyBytes (drop j log)
   pub after : drop (replyBytes * (n + m)) (x .log) ≡ drop (replyBytes * (n + m)) log
 
-module _ (tables : List ℕ) where
+module _ (tables : BothTables) where
   -- no step
   stops : (k n : ℕ) (s : State) (log : List ℕ) → (0 < k → lowest (stepTests s tables) ≡ 0 → ⊥) → Comes tables k n s log (record { steps = n; state = s; log = log }) 0
   unfolding onward

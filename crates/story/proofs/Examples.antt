@@ -1,6 +1,7 @@
 -- A run from a fresh start, by computation: a chart is loaded and an object started, a block is posted, held, read, released and freed, a
 -- handle is refused as stale, the block is handed out again and drained, a new event is dropped, an event is set aside twice, recalled and
--- flushed; and then somebody writes to the tables, so that DRAIN stops and NEXT is refused. Meets.antt says what it is for.
+-- flushed; a guarded chart is loaded, an object started on it, one of its flags set twice, and a step taken by that flag's row; and then
+-- somebody writes to the tables, so that DRAIN stops and NEXT is refused. Meets.antt says what it is for.
 use mathlib.Core.Bool.{Bool, true, false, cond, not, _&&_}
 use mathlib.Core.List.{List, [], _∷_, _++_}
 use mathlib.Core.Path.{_≡_, refl, sym, ap, _∙_}
@@ -11,7 +12,9 @@ use lib.Dec.{eqb}
 use lib.ListN.{length, getD, take, replicate}
 use Rattle.ground.specs.Bools.{and-left, and-right}
 use Rattle.ground.specs.Bytes.{blank, padded}
-use Rattle.ground.specs.Range.{countFrom, firstFrom, everyFrom}
+use Rattle.ground.specs.Range.{countFrom, firstFrom, everyFrom, tabFrom}
+use Rattle.bits.specs.Members.{put}
+use Rattle.chart.specs.Alarm.{alarm, shiftWith}
 use Rattle.chart.specs.Chart
 use Rattle.chart.specs.Flat
 use Rattle.chart.specs.Shift.{shift}
@@ -31,13 +34,13 @@ use Rattle.machine.specs.Inv.{references}
 use Rattle.machine.specs.Machine
 use Rattle.machine.specs.Machine.{answerTo}
 use Rattle.machine.specs.Numbers
-use Rattle.machine.specs.Numbers.{recordBytes, handlePlace, replyBytes, payloadBytes, tableBytes, logBytes}
+use Rattle.machine.specs.Numbers.{recordBytes, handlePlace, replyBytes, payloadBytes, tableBytes, guardedBytes, logBytes}
 use Rattle.machine.specs.Reply
-use Rattle.machine.specs.Reply.{Areas, Answer}
+use Rattle.machine.specs.Reply.{Areas, Answer, BothTables}
 use Rattle.machine.specs.State
 use Rattle.machine.specs.State.{State, freshState, restOf, started}
 use Rattle.machine.specs.Steps
-use Rattle.story.specs.Calls.{areBytes, Call, Story, fresh, then, kernel, answerIn, Area, payloadArea, tableArea, left, OnlyKernel}
+use Rattle.story.specs.Calls.{areBytes, Call, Story, fresh, then, kernel, answerIn, Area, payloadArea, tableArea, guardedArea, left, OnlyKernel, leftTables, OnlyKernelTables}
 use Rattle.story.specs.Terms.{reply, generation, cell, refer, earlier}
 use Rattle.story.proofs.Handles.{saidGeneration}
 
@@ -57,15 +60,18 @@ askElse r e = record { command = padded recordBytes r; bytes = e; chart = []; ho
 abbrev pub zeros : Area → List ℕ
 zeros a = replicate (a .size) 0
 
-abbrev lends : Ask → List ℕ → List ℕ → Areas
-lends a p t = record { payloads = p; tables = cond (a .honest) t (zeros tableArea); log = replicate logBytes 0 }
+abbrev pub noTables : BothTables
+noTables = record { plain = zeros tableArea; guarded = zeros guardedArea }
+
+abbrev lends : Ask → List ℕ → BothTables → Areas
+lends a p t = record { payloads = p; tables = cond (a .honest) t noTables; log = replicate logBytes 0 }
 
 abbrev asked : Story → Ask → Call
 asked h a = record {
   command = a .command;
   bytes = a .bytes;
   chart = a .chart;
-  areas = lends a (left payloadArea (zeros payloadArea) h) (left tableArea (zeros tableArea) h);
+  areas = lends a (left payloadArea (zeros payloadArea) h) (leftTables noTables h);
 }
 
 unfoldable pub told : Story → List Ask → Story
@@ -84,12 +90,16 @@ abbrev seenOf : Answer → Seen
 seenOf a = record { reply = a .reply; cell = at (a .state .cells) 0; refers = references (a .state) 0; rest = restOf (a .state) 9; on = started (a .state) 9 }
 
 -- The run from a state and areas, call by call.
-unfoldable run : State → List ℕ → List ℕ → List Ask → List Seen
+unfoldable run : State → List ℕ → BothTables → List Ask → List Seen
 run s p t [] = []
 run s p t (a ∷ l) =
     let z : Areas = lends a p t in
     let b : Answer = answerTo s (a .command) (a .chart) z in
-    seenOf b ∷ run (b .state) (cond (eqb (length p) payloadBytes) (b .areas .payloads) p) (cond (eqb (length (z .tables)) tableBytes) (b .areas .tables) t) l
+    seenOf b
+    ∷ run (b .state) (cond (eqb (length p) payloadBytes) (b .areas .payloads) p) (record {
+      plain = cond (eqb (length (z .tables .plain)) tableBytes) (b .areas .tables .plain) (t .plain);
+      guarded = cond (eqb (length (z .tables .guarded)) guardedBytes) (b .areas .tables .guarded) (t .guarded);
+    }) l
 
 unfoldable pub asks : List Ask
 unfolding areBytes everyFrom padded
@@ -117,6 +127,13 @@ asks =
     ∷ ask (20 ∷ 0 ∷ 9 ∷ []) [] refl
     ∷ ask (21 ∷ 0 ∷ []) [] refl
     ∷ ask (20 ∷ 0 ∷ 9 ∷ []) [] refl
+    ∷ ask (13 ∷ []) [] refl
+    ∷ ask (1 ∷ 4 ∷ []) alarm refl
+    ∷ ask (2 ∷ 10 ∷ 4 ∷ 2 ∷ []) [] refl
+    ∷ ask (22 ∷ 10 ∷ 3 ∷ 1 ∷ []) [] refl
+    ∷ ask (22 ∷ 10 ∷ 3 ∷ 1 ∷ []) [] refl
+    ∷ ask (4 ∷ 0 ∷ 3 ∷ 0 ∷ 0 ∷ 10 ∷ 0 ∷ []) [] refl
+    ∷ ask (12 ∷ []) [] refl
     ∷ ask (13 ∷ []) [] refl
     ∷ askElse (18 ∷ 5 ∷ []) refl
     ∷ askElse (12 ∷ []) refl
@@ -155,24 +172,33 @@ expected =
     ∷ sees (0 ∷ 0 ∷ 0 ∷ 0 ∷ 1 ∷ []) (live 3 2) 2 4
     ∷ sees [] (live 3 2) 2 4
     ∷ sees [] (live 3 1) 1 4
+    ∷ sees (0 ∷ 0 ∷ 0 ∷ 0 ∷ 5 ∷ []) (live 3 1) 1 4
+    ∷ sees (0 ∷ 10 ∷ 64 ∷ 4 ∷ 0 ∷ 0 ∷ 10 ∷ 11 ∷ 13 ∷ 21 ∷ []) (live 3 1) 1 4
+    ∷ sees (0 ∷ 0 ∷ 0 ∷ 0 ∷ 1 ∷ []) (live 3 1) 1 4
+    ∷ sees [] (live 3 1) 1 4
+    ∷ sees (0 ∷ 0 ∷ 0 ∷ 0 ∷ 1 ∷ []) (live 3 2) 2 4
+    ∷ seesEvent (0 ∷ 10 ∷ 41 ∷ 1 ∷ 0 ∷ 0 ∷ 19 ∷ []) 3 (live 3 2) 2 4
+    ∷ sees [] (live 3 1) 1 4
     ∷ sees (0 ∷ 0 ∷ 0 ∷ 0 ∷ 0 ∷ 2 ∷ []) (live 3 1) 1 4
     ∷ sees (15 ∷ []) (live 3 1) 1 4
     ∷ []
 
-computed : run freshState (zeros payloadArea) (zeros tableArea) asks ≡ expected
-unfolding run asks expected padded blank countFrom firstFrom everyFrom shift
+computed : run freshState (zeros payloadArea) noTables asks ≡ expected
+unfolding run asks expected padded blank countFrom firstFrom everyFrom tabFrom shift shiftWith alarm put
     Chart.byte Chart.parent Chart.states Chart.rowFor Chart.path Chart.has Chart.lengthOk Chart.among Chart.isSignal Chart.formOk Chart.formsOk Chart.parentOk Chart.stateOk Chart.treeOk Chart.rowOk Chart.rowsOk Chart.classOf
-    Step.listed Step.upTo Step.leave Step.enter Step.firstOf Step.limit Step.settle Step.moved Step.step Step.start Flat.rowOf Flat.rowNo Flat.rowsFrom Flat.slotBytes Flat.place Flat.sound
+    Step.listed Step.upTo Step.leave Step.enter Step.firstOf Step.limit Step.settle Step.moved Step.rowDoes Step.answerBy Step.step Step.start
+    Flat.rowOf Flat.rowsOut Flat.behind Flat.rowNo Flat.rowsFrom Flat.slotBytes Flat.place Flat.sound Flat.startSound Flat.answerOf Flat.taken Flat.readable Flat.allRead
     Box.changed Box.behind Box.ahead Box.rest Box.bare Box.highestOf Box.total Box.timesIn Entry.entryOf Entry.handOf
     Cell.back Cell.isFree Cell.isNew Cell.atLast Cell.generationOf Cell.staleFor Cell.handedOut Cell.more Cell.fewer Cell.dropped
     Row.generationAt Row.staleAt Row.poolFor Row.lowestFree Row.foundIn Mark.freeIn Mark.markWith Mark.marksAfter
-    Inv.inHand Inv.references Numbers.outside Numbers.capacity Numbers.placeOf State.isOpen
+    Inv.inHand Inv.references Numbers.editionOf Numbers.outside Numbers.capacity Numbers.placeOf State.isOpen
     Reply.handle Reply.bytes Reply.replyOf Reply.lowest Reply.unless Reply.unlessFault Reply.over
     Machine.spoilt Machine.spoiltNew Machine.choose Machine.command Machine.answerTo
-    Charts.slotUsed Charts.loadTests Charts.load Charts.startRow Charts.startTests Charts.startedAt Charts.start
+    Charts.slotTable Charts.filled Charts.slotUsed Charts.loadTests Charts.load Charts.startRow Charts.startTests Charts.startedAt Charts.start
+    Charts.flagTests Charts.flagChanges Charts.flagSet Charts.flag
     Events.noneFound Events.newTests Events.newEvent Events.newIn Events.new Events.postTests Events.posted Events.post Events.holdTests Events.held Events.hold
     Events.releaseTests Events.released Events.release Events.dropTests Events.dropEvent Events.readTests Events.payloadOf Events.read
-    Steps.coming Steps.signalOf Steps.firstByte Steps.generationIn Steps.nextRow Steps.stepTests Steps.nextTests Steps.stepped Steps.nextSays Steps.next Steps.letGoHand Steps.frees Steps.ended Steps.endTests Steps.end Steps.logged Steps.drainFrom Steps.drainEnd Steps.drainTests Steps.drainDone Steps.drain
+    Steps.coming Steps.signalOf Steps.firstByte Steps.generationIn Steps.nextRows Steps.nextAnswer Steps.stepTests Steps.nextTests Steps.stepped Steps.nextSays Steps.next Steps.letGoHand Steps.frees Steps.ended Steps.endTests Steps.end Steps.logged Steps.drainFrom Steps.drainEnd Steps.drainTests Steps.drainDone Steps.drain
     Aside.isTimer Aside.deferTests Aside.setAside Aside.defer Aside.recallTests Aside.recalled Aside.recallDone Aside.recall Aside.letGoEach Aside.flushed Aside.flushTests Aside.flush
 computed = refl
 
@@ -182,7 +208,7 @@ unfoldable views : Story → List Ask → List Seen
 views h [] = []
 views h (a ∷ l) = seenOf (answerIn h (asked h a)) ∷ views (then h (asked h a)) l
 
-views-run : (h : Story) (l : List Ask) → views h l ≡ run (kernel h) (left payloadArea (zeros payloadArea) h) (left tableArea (zeros tableArea) h) l
+views-run : (h : Story) (l : List Ask) → views h l ≡ run (kernel h) (left payloadArea (zeros payloadArea) h) (leftTables noTables h) l
 unfolding views run kernel left
 views-run h [] = refl
 views-run h (a ∷ l) = ap (λ (r : List Seen). seenOf (answerIn h (asked h a)) ∷ r) (views-run (then h (asked h a)) l)
@@ -211,14 +237,14 @@ honestly [] i = true
 honestly (a ∷ l) zero = true
 honestly (a ∷ l) (suc i) = a .honest && honestly l i
 
-pub told-tables : (h : Story) (l : List Ask) (i : ℕ) → honestly l i ≡ true → OnlyKernel tableArea (zeros tableArea) h → OnlyKernel tableArea (zeros tableArea) (told h (take i l))
+pub told-tables : (h : Story) (l : List Ask) (i : ℕ) → honestly l i ≡ true → OnlyKernelTables noTables h → OnlyKernelTables noTables (told h (take i l))
 unfolding told OnlyKernel
 told-tables h [] zero e o = o
 told-tables h [] (suc i) e o = o
 told-tables h (a ∷ l) zero e o = o
 told-tables h (a ∷ l) (suc i) e o =
     let t = and-left (a .honest) (honestly l i) e in
-    told-tables (then h (asked h a)) l i (and-right (a .honest) (honestly l i) e) (o, λ q. rw t refl)
+    told-tables (then h (asked h a)) l i (and-right (a .honest) (honestly l i) e) ((o .0, λ q. rw t refl), (o .1, λ q. rw t refl))
 
 -- The first i calls, the call after them, and what is seen of it.
 abbrev pub nothing : Seen
@@ -235,7 +261,7 @@ abbrev pub callOf : ℕ → Call
 callOf i = asked (storyOf i) (getD asks i blank-ask)
 
 abbrev pub calls : ℕ
-calls = 26
+calls = 33
 
 views-are : views fresh asks ≡ expected
 unfolding kernel left

@@ -13,7 +13,7 @@ use Rattle.pool.specs.Row.{generationAt}
 use Rattle.pool.specs.declared.Found.the-variants.{At}
 use Rattle.machine.specs.Events.{newIn}
 use Rattle.machine.specs.Numbers.{handlePlace}
-use Rattle.machine.specs.Reply.{Areas, bytes, handle, generationFrom, replyOf}
+use Rattle.machine.specs.Reply.{Areas, BothTables, bytes, handle, generationFrom, replyOf}
 use Rattle.machine.specs.State.{State}
 use Rattle.machine.specs.Steps.{coming, firstByte, generationIn, nextSays}
 
@@ -46,6 +46,6 @@ pub new-ends : (s : State) (b g n : ℕ) (payload : List ℕ) (z : Areas) → En
 unfolding newIn replyOf
 new-ends s b g n payload z = ends _ _ _ _ _ _ _ _ _ _
 
-pub next-ends : (s : State) (tables : List ℕ) → EndsWith (firstByte (coming s)) (generationIn s (coming s)) (replyOf (nextSays s tables))
+pub next-ends : (s : State) (tables : BothTables) → EndsWith (firstByte (coming s)) (generationIn s (coming s)) (replyOf (nextSays s tables))
 unfolding nextSays replyOf
 next-ends s tables = ends _ _ _ _ _ _ _ _ _ _

@@ -2,20 +2,20 @@
 use mathlib.Core.Bool.{Bool, true, false}
 use mathlib.Core.List.{List}
 use mathlib.Core.Path.{_≡_, refl, sym, ap, _∙_}
-use Prim.Native.Nat.{ℕ, zero, suc, _+_, _*_}
+use Prim.Native.Nat.{ℕ, zero, suc, _+_}
 use native.Mathlib.Omega.{arith}
 use lib.Dec.{eqb}
 use lib.ListN.{length, getD, set}
 use Rattle.chart.specs.Chart.{classOf, states}
-use Rattle.chart.specs.Flat.{slotBytes}
-use Rattle.chart.specs.Numbers.{slotSize}
+use Rattle.chart.specs.Flat.{answerOf, slotBytes}
+use Rattle.mail.specs.Box.{one}
 use Rattle.machine.proofs.Tests.{unless-none}
 use Rattle.machine.specs.Aside.{deferTests, setAside, defer, recallTests, recallDone, recall, flushTests, flushed, flush}
-use Rattle.machine.specs.Charts.{loadTests, load, startRow, startTests, startedAt, start}
+use Rattle.machine.specs.Charts.{filled, loadTests, load, startRow, startTests, startedAt, start, flagTests, flagChanges, flagSet, flag}
 use Rattle.machine.specs.Events.{newTests, newIn, new, receivers, publishTests, publishDone, publish, dropTests, dropEvent, freedNew, readTests, payloadOf, read}
 use Rattle.machine.specs.Machine.{arg, generation, payload, spoilt, spoiltNew, choose, command, answerTo}
-use Rattle.machine.specs.Numbers.{objects, recordBytes}
-use Rattle.machine.specs.Reply.{over, withTables, done, ran, shown, Areas, Answer, answer, lowest, unless, unlessFault, replyOf, bytes}
+use Rattle.machine.specs.Numbers.{objects, editionOf, recordBytes}
+use Rattle.machine.specs.Reply.{withTables, done, ran, shown, Areas, Answer, answer, lowest, unless, unlessFault, replyOf, bytes}
 use Rattle.machine.specs.State.{State, signalIn, sideOf, withLoaded}
 use Rattle.machine.specs.Steps.{nextTests, stepped, nextSays, next, drainFrom, drainTests, drainDone, drain}
 use Rattle.pool.specs.Row.{found}
@@ -26,7 +26,7 @@ numberOf a = getD (a .reply) 0 0
 -- What LOAD does with an accepted chart.
 abbrev pub loadDone : ℕ → List ℕ → State → Areas → Answer
 loadDone q d s z =
-    answer (withLoaded (set (s .loaded) q 1) s) (done (states d) 0) (withTables (over (z .tables) (slotSize * q) (slotBytes d)) z)
+    answer (withLoaded (set (s .loaded) q 1) s) (done (states d) 0) (withTables (filled q (slotBytes (editionOf q) d) (z .tables)) z)
 
 -- The answer a is b, where none of the tests l holds.
 pub record Made (a : Answer) (l : List (ℕ × Bool)) (b : Answer) : Type 0 where
@@ -65,23 +65,28 @@ module _ (s : State) (r d : List ℕ) (z : Areas) (e : numberOf (answerTo s r d 
       let m = unless-made s z b l (sym (ap numberOf u) ∙ e) in
       record { none = m .none; is = u ∙ m .is }
 
-  pub load-made : arg r 0 ≡ 1 → Made (answerTo s r d z) (loadTests (spoilt 1 r) (arg r 1) s (z .tables)) (unlessFault (classOf d) s z (loadDone (arg r 1) d s z))
+  -- the class of the chart by the edition of LOAD's slot
+  abbrev class : ℕ
+  class = classOf (editionOf (arg r 1)) d
+
+  pub load-made : arg r 0 ≡ 1 → Made (answerTo s r d z) (loadTests (spoilt 1 r) (arg r 1) s (z .tables)) (unlessFault class s z (loadDone (arg r 1) d s z))
   unfolding command choose load
   load-made q = by-command 1 _ _ q refl
 
-  pub load-done : arg r 0 ≡ 1 → (classOf d ≡ 0) × (answerTo s r d z ≡ loadDone (arg r 1) d s z)
+  pub load-done : arg r 0 ≡ 1 → (class ≡ 0) × (answerTo s r d z ≡ loadDone (arg r 1) d s z)
   unfolding unlessFault replyOf bytes
-  load-done q = go (classOf d) refl
+  load-done q = go class refl
     where
-      m : Made (answerTo s r d z) (loadTests (spoilt 1 r) (arg r 1) s (z .tables)) (unlessFault (classOf d) s z (loadDone (arg r 1) d s z))
+      m : Made (answerTo s r d z) (loadTests (spoilt 1 r) (arg r 1) s (z .tables)) (unlessFault class s z (loadDone (arg r 1) d s z))
       m = load-made q
 
-      go : (k : ℕ) → classOf d ≡ k → (classOf d ≡ 0) × (answerTo s r d z ≡ loadDone (arg r 1) d s z)
+      go : (k : ℕ) → class ≡ k → (class ≡ 0) × (answerTo s r d z ≡ loadDone (arg r 1) d s z)
       go zero u = (u, rw u at (m .is))
       go (suc k) u = let w : _≡_ {A = ℕ} 14 0 = sym (ap numberOf (rw u at (m .is))) ∙ e in absurd (omega arith)
 
-  pub start-made : arg r 0 ≡ 2 → Made (answerTo s r d z) (startTests (spoilt 3 r) (arg r 1) (arg r 2) (arg r 3) s (z .tables))
-      (answer (startedAt s (arg r 1) (arg r 2) (arg r 3) (getD (startRow (z .tables) (arg r 2)) 0 0)) (ran (arg r 1) 0 0 0 (startRow (z .tables) (arg r 2))) z)
+  pub start-made : arg r 0 ≡ 2 → let a = answerOf (startRow (z .tables) (arg r 2)) in
+      Made (answerTo s r d z) (startTests (spoilt 3 r) (arg r 1) (arg r 2) (arg r 3) s (z .tables))
+      (answer (startedAt s (arg r 1) (arg r 2) (arg r 3) (a .next)) (ran (arg r 1) 0 0 0 a) z)
   unfolding command choose start
   start-made q = by-command 2 _ _ q refl
 
@@ -126,3 +131,8 @@ module _ (s : State) (r d : List ℕ) (z : Areas) (e : numberOf (answerTo s r d 
   pub flush-made : arg r 0 ≡ 21 → Made (answerTo s r d z) (flushTests (spoilt 1 r) (arg r 1)) (answer (flushed s (arg r 1)) (done (length (sideOf s (arg r 1))) 0) z)
   unfolding command choose flush
   flush-made q = by-command 21 _ _ q refl
+
+  pub flag-made : arg r 0 ≡ 22 → let p = arg r 1 in let f = arg r 2 in let v = arg r 3 in
+      Made (answerTo s r d z) (flagTests (spoilt 3 r) p f v s) (answer (flagSet s p f v) (done (one (flagChanges s p f v)) 0) z)
+  unfolding command choose flag
+  flag-made q = by-command 22 _ _ q refl

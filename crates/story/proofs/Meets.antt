@@ -9,31 +9,33 @@ use lib.ListN.{length, getD, take, replicate, length-replicate}
 use Rattle.ground.specs.Bytes.{padded}
 use Rattle.chart.specs.Chart.{classOf}
 use Rattle.chart.specs.Shift.{shift-stated}
+use Rattle.chart.specs.declared.read.Edition.the-variants.{Plain}
 use Rattle.pool.specs.Cell.{isFree}
 use Rattle.pool.specs.Row.{poolFor}
 use Rattle.machine.specs.Charts.{slotUsed}
 use Rattle.machine.specs.Inv.{isLive}
-use Rattle.machine.specs.Numbers.{objects, tableBytes}
+use Rattle.machine.specs.Numbers.{objects, guardedSlot, tableBytes, guardedBytes}
 use Rattle.machine.specs.Reply.{STALE, TABLE}
 use Rattle.machine.specs.State.{restOf, started, isOpen}
-use Rattle.story.specs.Calls.{Call, Story, fresh, then, kernel, payloadArea, tableArea, left, OnlyKernel}
-use Rattle.story.specs.Table.{LOAD, START, NEW, NEXT, READ, DRAIN, DEFER, RECALL, FLUSH, oneOf}
-use Rattle.story.specs.Terms.{number, value₁, value₂, event, generation, Did, cell, LastGoes, NewGoes, GoesOn, Names, mark, side}
+use Rattle.story.specs.Calls.{Call, Story, fresh, then, kernel, payloadArea, left, OnlyKernel, OnlyKernelTables}
+use Rattle.story.specs.Table.{LOAD, START, NEW, NEXT, READ, DRAIN, DEFER, RECALL, FLUSH, FLAG, oneOf}
+use Rattle.story.specs.Terms.{argument, number, object, value₁, value₂, event, generation, Did, cell, LastGoes, NewGoes, GoesOn, Names, mark, side}
 use Rattle.story.proofs.Aside.{deferred}
-use Rattle.story.proofs.Examples.{told, zeros, asks, expected, honestly, told-payloads, told-tables, storyOf, callOf, calls, byte-at, generation-at, after, cell-after, refer-after, rest-after, on-after, before-at}
+use Rattle.story.proofs.Examples.{told, zeros, noTables, asks, expected, honestly, told-payloads, told-tables, storyOf, callOf, calls, byte-at, generation-at, after, cell-after, refer-after, rest-after, on-after, before-at}
 use Rattle.story.proofs.Marks.{marks-stay, markShown}
 
 -- what `Loads` asks for, of slot 0
 record Loadable (h : Story) (c : Call) : Type 0 where
   form : c .command ≡ LOAD ∷ 0 ∷ replicate 70 0
-  accepted : classOf (c .chart) ≡ 0
-  whole : length (c .areas .tables) ≡ tableBytes
+  accepted : classOf Plain (c .chart) ≡ 0
+  plain : length (c .areas .tables .plain) ≡ tableBytes
+  guarded : length (c .areas .tables .guarded) ≡ guardedBytes
   closed : isOpen (kernel h .hand) ≡ false
   unused : slotUsed (kernel h) 0 objects ≡ false
 
 loadable : Loadable (storyOf 0) (callOf 0)
 unfolding asks padded told kernel left slotUsed isOpen
-loadable = record { form = refl; accepted = shift-stated .good; whole = length-replicate {A = ℕ} tableBytes 0; closed = refl; unused = refl }
+loadable = record { form = refl; accepted = shift-stated .good; plain = length-replicate {A = ℕ} tableBytes 0; guarded = length-replicate {A = ℕ} guardedBytes 0; closed = refl; unused = refl }
 
 -- what is set aside after the first DEFER: as many as it answers
 set-aside : length (side (storyOf 19) 0) ≡ 1
@@ -98,13 +100,19 @@ record Meets : Type 0 where
   recalls : Did RECALL (storyOf 20) (callOf 20) × (value₁ (storyOf 20) (callOf 20) ≡ 1)
   flushes : Did FLUSH (storyOf 21) (callOf 21) × (value₁ (storyOf 21) (callOf 21) ≡ 1)
   finds : Did RECALL (storyOf 22) (callOf 22) × (value₁ (storyOf 22) (callOf 22) ≡ 0)
-  -- only the kernel writes to the payloads, and to the tables up to call 24
+  -- the guarded slot has a chart and an object, a flag of that is set, which changes it the first time, and it takes a step
+  guards : Did LOAD (storyOf 24) (callOf 24) × (argument (callOf 24) 1 ≡ guardedSlot)
+  sits : Did START (storyOf 25) (callOf 25) × (argument (callOf 25) 2 ≡ guardedSlot)
+  flags : Did FLAG (storyOf 26) (callOf 26) × (value₁ (storyOf 26) (callOf 26) ≡ 1)
+  still : Did FLAG (storyOf 27) (callOf 27) × (value₁ (storyOf 27) (callOf 27) ≡ 0)
+  guarded : Did NEXT (storyOf 29) (callOf 29) × (object (storyOf 29) (callOf 29) ≡ 10)
+  -- only the kernel writes to the payloads, and to the tables up to call 31
   payloads : (i : ℕ) → OnlyKernel payloadArea (zeros payloadArea) (storyOf i)
-  tables : (i : ℕ) → honestly asks i ≡ true → OnlyKernel tableArea (zeros tableArea) (storyOf i)
-  honest : honestly asks 24 ≡ true
+  tables : (i : ℕ) → honestly asks i ≡ true → OnlyKernelTables noTables (storyOf i)
+  honest : honestly asks 31 ≡ true
   -- then others do: DRAIN stops below its budget, and NEXT is refused
-  stops : Did DRAIN (storyOf 24) (callOf 24) × (value₂ (storyOf 24) (callOf 24) ≡ 2)
-  unsound : number (storyOf 25) (callOf 25) ≡ TABLE
+  stops : Did DRAIN (storyOf 31) (callOf 31) × (value₂ (storyOf 31) (callOf 31) ≡ 2)
+  unsound : number (storyOf 32) (callOf 32) ≡ TABLE
 
 meets : Meets
 unfolding asks expected padded isLive isFree oneOf OnlyKernel
@@ -137,9 +145,14 @@ meets = record {
   recalls = ((refl, byte-at 20 (omega arith) 0), byte-at 20 (omega arith) 4);
   flushes = ((refl, byte-at 21 (omega arith) 0), byte-at 21 (omega arith) 4);
   finds = ((refl, byte-at 22 (omega arith) 0), byte-at 22 (omega arith) 4);
+  guards = ((refl, byte-at 24 (omega arith) 0), refl);
+  sits = ((refl, byte-at 25 (omega arith) 0), refl);
+  flags = ((refl, byte-at 26 (omega arith) 0), byte-at 26 (omega arith) 4);
+  still = ((refl, byte-at 27 (omega arith) 0), byte-at 27 (omega arith) 4);
+  guarded = ((refl, byte-at 29 (omega arith) 0), byte-at 29 (omega arith) 1);
   payloads = λ i. told-payloads fresh (take i asks) tt;
-  tables = λ i e. told-tables fresh asks i e tt;
+  tables = λ i e. told-tables fresh asks i e (tt, tt);
   honest = refl;
-  stops = ((refl, byte-at 24 (omega arith) 0), byte-at 24 (omega arith) 5);
-  unsound = byte-at 25 (omega arith) 0;
+  stops = ((refl, byte-at 31 (omega arith) 0), byte-at 31 (omega arith) 5);
+  unsound = byte-at 32 (omega arith) 0;
 }

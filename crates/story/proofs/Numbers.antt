@@ -23,18 +23,18 @@ use Rattle.pool.specs.declared.Span.{Span}
 use Rattle.machine.specs.Aside
 use Rattle.machine.specs.Aside.{recallDone}
 use Rattle.machine.specs.Charts
-use Rattle.machine.specs.Charts.{slotUsed}
+use Rattle.machine.specs.Charts.{tablesBad, slotBad, slotUsed}
 use Rattle.machine.specs.Clocks
 use Rattle.machine.specs.Events
 use Rattle.machine.specs.Events.{noneFound, newIn, fullReceiver, publishDone}
 use Rattle.machine.specs.Inv.{Inv}
 use Rattle.machine.specs.Machine.{arg, spoilt, spoiltNew, choose, answerTo}
-use Rattle.machine.specs.Numbers.{objects, recordBytes, mostHolds, mostAside, outside, noSlot}
+use Rattle.machine.specs.Numbers.{objects, editionOf, recordBytes, mostHolds, mostAside, outside, noSlot}
 use Rattle.machine.specs.Reply.{FORM, no, Areas, Answer, answer, lowest, unless, unlessFault, replyOf, bytes}
 use Rattle.machine.specs.State.{State, slotOf, sideOf, started, room, subscribed, holdsOn, isOpen}
 use Rattle.machine.specs.Steps
 use Rattle.story.specs.Table
-use Rattle.story.specs.Table.{FLUSH, tableOf, someObject, dry}
+use Rattle.story.specs.Table.{FLAG, tableOf, someObject, dry}
 use Rattle.story.proofs.Dispatch.{ByRecord, by-number}
 
 -- ## Tests by a command's way and by the table's
@@ -45,6 +45,10 @@ or-false false = refl
 cond-or : (a b : Bool) (x y : ℕ) → cond (a || b) x y ≡ cond a x (cond b x y)
 cond-or true b x y = refl
 cond-or false b x y = refl
+
+and-and : (a b c : Bool) → ((a && b) && c) ≡ (a && (b && c))
+and-and true b c = refl
+and-and false b c = refl
 
 -- an object that uses the slot; a full receiver
 used-is : (s : State) (q n : ℕ) → slotUsed s q n ≡ someObject (λ x. started s x && eqb (slotOf s x) q) n
@@ -138,15 +142,17 @@ module _ (s : State) (z : Areas) where
   fault-number (suc c) a h = rw (eqb·suc-zero c) refl
 
   -- LOAD's two kinds of tests, one after the other
-  load-number : (t u v w x : Bool) (a : Answer) (n : ℕ) → numberOf a ≡ n →
-      numberOf (unless (cond t 1 (cond u 2 (cond v 3 (cond w 4 (cond x 9 0))))) s z a) ≡ cond t 1 (cond u 2 (cond v 3 (cond w 4 (cond x 9 n))))
+  load-number : (t u v w x y : Bool) (a : Answer) (n : ℕ) → numberOf a ≡ n →
+      numberOf (unless (cond t 1 (cond u 2 (cond v 2 (cond w 3 (cond x 4 (cond y 9 0)))))) s z a)
+      ≡ cond t 1 (cond u 2 (cond v 2 (cond w 3 (cond x 4 (cond y 9 n)))))
   unfolding unless replyOf bytes
-  load-number true u v w x a n e = refl
-  load-number false true v w x a n e = refl
-  load-number false false true w x a n e = refl
-  load-number false false false true x a n e = refl
-  load-number false false false false true a n e = refl
-  load-number false false false false false a n e = e
+  load-number true u v w x y a n e = refl
+  load-number false true v w x y a n e = refl
+  load-number false false true w x y a n e = refl
+  load-number false false false true x y a n e = refl
+  load-number false false false false true y a n e = refl
+  load-number false false false false false true a n e = refl
+  load-number false false false false false false a n e = e
 
   new-done : (f : Found) (g n : ℕ) (payload : List ℕ) → numberOf (newIn f g n payload s z) ≡ 0
   unfolding newIn replyOf bytes
@@ -168,20 +174,23 @@ module _ (s : State) (r d : List ℕ) (z : Areas) (long : eqb (length r) recordB
   abbrev Tabled : Answer → Type 0
   Tabled a = numberOf a ≡ lowest (tableOf (arg r 0) s r d z)
 
-  unknown-number : outside 1 FLUSH (arg r 0) ≡ true → Tabled (answer s (no FORM) z)
+  unknown-number : outside 1 FLAG (arg r 0) ≡ true → Tabled (answer s (no FORM) z)
   unfolding lowest tableOf replyOf bytes
   unknown-number e = rw (long, e) refl
 
   each : ByRecord Tabled r d s z
-  unfolding Charts.load Charts.loadTests Charts.start Charts.startTests Clocks.arm Clocks.armTests Clocks.disarm Clocks.disarmTests Clocks.tick Clocks.tickDone
+  unfolding Charts.load Charts.loadTests Charts.start Charts.startTests Charts.flag Charts.flagTests Clocks.arm Clocks.armTests Clocks.disarm Clocks.disarmTests Clocks.tick Clocks.tickDone
       Events.new Events.newTests Events.post Events.postTests Events.postFront Events.postFrontTests Events.publish Events.publishTests
       Events.subscribe Events.unsubscribe Events.subscribeTests Events.hold Events.holdTests Events.release Events.releaseTests Events.dropEvent Events.dropTests
       Events.read Events.readTests Steps.next Steps.nextTests Steps.stepTests Steps.nextSays Steps.end Steps.endTests Steps.drain Steps.drainTests Steps.drainDone
       Aside.defer Aside.deferTests Aside.recall Aside.recallTests Aside.flush Aside.flushTests
       replyOf bytes spoilt lowest tableOf dry
-      Table.arguments Table.line Table.someOutside Table.isOutside Table.objectIn Table.isObject Table.oneOf Table.unusedByte Table.otherLength Table.slotInUse Table.fullSubscriber Table.fullSide Table.noPlace outside
+      Table.arguments Table.line Table.someOutside Table.isOutside Table.objectIn Table.isObject Table.oneOf Table.unusedByte Table.usesGuarded Table.otherLength Table.unsound Table.slotInUse Table.fullSubscriber Table.fullSide Table.noPlace outside
   each = record {
-    load = λ e. rw e (load-number s z (spoilt 1 r) (Charts.tablesBad (z .tables)) (noSlot (arg r 1)) (isOpen (s .hand)) (slotUsed s (arg r 1) objects) _ (cond (not (eqb (classOf d) 0)) 14 0) (fault-number s z (classOf d) _ refl) ∙ simp (long, or-false, cond-or, used-is));
+    load = λ e.
+        let q = arg r 1 in
+        rw e (load-number s z (spoilt 1 r) (tablesBad (z .tables)) (slotBad q (z .tables)) (noSlot q) (isOpen (s .hand)) (slotUsed s q objects) _ _ (fault-number s z (classOf (editionOf q) d) _ refl)
+        ∙ simp (long, or-false, cond-or, used-is));
     start = λ e. rw e (unless-number s z _ _ refl ∙ simp (long, or-false, cond-or));
     new = λ e. rw e (unless-number s z _ _ (new-done s z _ _ _ _) ∙ simp (long, or-false, cond-or, spoilt-new, none-is));
     post = λ e. rw e (unless-number s z _ _ refl ∙ simp (long, or-false, cond-or));
@@ -192,7 +201,7 @@ module _ (s : State) (r d : List ℕ) (z : Areas) (long : eqb (length r) recordB
     hold = λ e. rw e (unless-number s z _ _ refl ∙ rw (at-most (holdsOn s (arg r 1)) mostHolds (i .store .held (arg r 1))) (simp (long, or-false, cond-or)));
     release = λ e. rw e (unless-number s z _ _ refl ∙ simp (long, or-false, cond-or));
     dropEvent = λ e. rw e (unless-number s z _ _ refl ∙ simp (long, or-false, cond-or));
-    next = λ e. rw e (unless-number s z _ _ refl ∙ rw (idle-is (s .boxes)) (simp (long, or-false, cond-or)));
+    next = λ e. rw e (unless-number s z _ _ refl ∙ rw (idle-is (s .boxes)) (simp (long, or-false, cond-or, and-and)));
     end = λ e. rw e (unless-number s z _ _ refl ∙ simp (long, cond-or));
     arm = λ e. rw e (unless-number s z _ _ refl ∙ simp (long, or-false, cond-or));
     disarm = λ e. rw e (unless-number s z _ _ refl ∙ simp (long, or-false, cond-or));
@@ -202,6 +211,7 @@ module _ (s : State) (r d : List ℕ) (z : Areas) (long : eqb (length r) recordB
     defer = λ e. rw e (unless-number s z _ _ refl ∙ rw (at-most (length (sideOf s (arg r 1))) mostAside (i .aside .room (arg r 1))) (simp (long, or-false, cond-or)));
     recall = λ e. rw e (unless-number s z _ _ (recall-done s z _ _ _) ∙ simp (long, or-false, cond-or));
     flush = λ e. rw e (unless-number s z _ _ refl ∙ simp (long, or-false, cond-or));
+    flag = λ e. rw e (unless-number s z _ _ refl ∙ simp (long, or-false, cond-or));
   }
 
   whole-number : numberOf (answerTo s r d z) ≡ lowest (tableOf (arg r 0) s r d z)

@@ -1,49 +1,61 @@
 -- NEXT and END of a story, and DRAIN as so many of them.
-use mathlib.Core.Bool.{Bool, true, false, cond, not}
+use mathlib.Core.Bool.{Bool, true, false, cond, not, _&&_}
 use mathlib.Core.List.{List, [], _∷_}
 use mathlib.Core.Path.{_≡_, refl, sym, ap, _∙_, subst}
 use Prim.Native.Nat.{ℕ, zero, suc, _+_, _*_, _≤_, _<_}
 use native.Mathlib.Decide.{decLt}
 use native.Mathlib.Nat.{zero-add}
 use native.Mathlib.Omega.{arith}
-use borrow.Author.Tests.{ne-eqb, eqb-true, ltb-true, ltb-true, not-false}
+use borrow.Author.Tests.{eq-eqb, ne-eqb, eqb-true, ltb-true, not-false}
 use lib.Dec.{eqb, ltb}
 use lib.ListN.{length, getD, replicate, List·getD-eq-default}
 use Rattle.ground.specs.Bytes.{blank}
 use Rattle.ground.specs.Every.{every-at}
 use Rattle.ground.specs.Range.{everyFrom}
-use Rattle.chart.specs.Flat.{sound}
+use Rattle.chart.specs.Flat.{allRead}
 use Rattle.mail.specs.Box.{queued}
 use Rattle.mail.specs.declared.Hand.{Hand}
 use Rattle.mail.specs.declared.Hand.the-variants.{Nothing, Block, Timer}
 use Rattle.machine.proofs.Drain.{drain-falls}
 use Rattle.machine.proofs.KeepsSteps.{Ready, step-ready, coming-event, closed-hand, ended-hand}
 use Rattle.machine.proofs.Tests.{NoneHolds, none-holds, unless-none}
-use Rattle.machine.specs.Charts.{tablesBad}
 use Rattle.machine.specs.Inv.{Inv, IsEvent}
 use Rattle.machine.specs.Machine.{spoilt, choose, command, answerTo}
-use Rattle.machine.specs.Numbers.{replyBytes, logBytes}
-use Rattle.machine.specs.Reply.{TABLE, Areas, Answer, answer, lowest, unless, replyOf, bytes}
+use Rattle.machine.specs.Numbers.{guardedSlot, editionOf, replyBytes, tableBytes, guardedBytes, logBytes}
+use Rattle.machine.specs.Reply.{TABLE, Areas, Answer, BothTables, answer, lowest, unless, replyOf, bytes}
 use Rattle.machine.specs.State.{State, isOpen}
-use Rattle.machine.specs.Steps.{toRun, coming, nextRow, stepTests, nextTests, stepped, nextSays, next, endTests, ended, end, Drained, drainFrom, drainEnd, drainTests, drainDone}
+use Rattle.machine.specs.Steps.{toRun, slotToRun, coming, nextRows, stepTests, nextTests, stepped, nextSays, next, endTests, ended, end, Drained, drainFrom, drainEnd, drainTests, drainDone}
 use Rattle.story.specs.Calls.{areBytes, Call, Story, then, kernel, answerIn}
 use Rattle.story.specs.Demands
 use Rattle.story.specs.Table.{NEXT, END, DRAIN}
 use Rattle.story.specs.Terms.{argument, reply, number, value₁, value₂, Did, nextCall, endCall, steps, Drains}
 use Rattle.story.proofs.Draining.{onward, onward-last, Comes, drain-comes}
+use Rattle.story.proofs.Lent.{Whole}
 use Rattle.story.proofs.Made.{Made, drain-made, numberOf}
 use Rattle.story.proofs.Numbers.{idle-is, unless-number}
 use Rattle.story.proofs.Refusals.{kept}
 
 -- ## One NEXT, one END
+none-bad : (a b : Bool) → (a && (b && false)) ≡ false
+none-bad true true = refl
+none-bad true false = refl
+none-bad false b = refl
+
 module _ (s : State) (z : Areas) where
   abbrev stepAnswer : Answer
   stepAnswer = answer (stepped s (z .tables)) (nextSays s (z .tables)) z
 
-  module _ (whole : tablesBad (z .tables) ≡ false) (closed : s .hand ≡ Nothing) where
+  module _ (whole : Whole (z .tables)) (closed : s .hand ≡ Nothing) where
     next-is : answerTo s (NEXT ∷ replicate 71 0) [] z ≡ unless (lowest (stepTests s (z .tables))) s z stepAnswer
     unfolding answerTo command choose next nextTests lowest spoilt blank everyFrom isOpen
-    next-is = rw (whole, closed) refl
+    next-is =
+        rw (
+          eq-eqb (length (z .tables .plain)) tableBytes (whole .plain),
+          eq-eqb (length (z .tables .guarded)) guardedBytes (whole .guarded),
+          none-bad (not (eqb (toRun s) 0)) (eqb (slotToRun s) guardedSlot),
+          closed,
+        )
+        refl
 
     next-number : numberOf (answerTo s (NEXT ∷ replicate 71 0) [] z) ≡ lowest (stepTests s (z .tables))
     unfolding nextSays replyOf bytes
@@ -63,7 +75,7 @@ event-open Nothing e = absurd e
 event-open (Block b) e = refl
 event-open (Timer t g) e = refl
 
-stepped-open : (s : State) (tables : List ℕ) → Inv s → Ready s → isOpen (stepped s tables .hand) ≡ true
+stepped-open : (s : State) (tables : BothTables) → Inv s → Ready s → isOpen (stepped s tables .hand) ≡ true
 unfolding stepped
 stepped-open s tables i r = event-open (coming s) (coming-event s i r)
 
@@ -76,8 +88,8 @@ unfolding kernel endCall
 kernel-end h c = refl
 
 -- the steps of a story, as long as they can be taken
-module _ (h : Story) (c : Call) (whole : tablesBad (c .areas .tables) ≡ false) (closed : kernel h .hand ≡ Nothing) where
-  abbrev tables : List ℕ
+module _ (h : Story) (c : Call) (whole : Whole (c .areas .tables)) (closed : kernel h .hand ≡ Nothing) where
+  abbrev tables : BothTables
   tables = c .areas .tables
 
   onward-closed : (k : ℕ) → onward tables k (kernel h) .hand ≡ Nothing
@@ -124,9 +136,9 @@ byte-small r k e = go (decLt k (length r))
     go (yes l) = ltb-true (getD r k 0) 256 (every-at (λ j. ltb (getD r j 0) 256) 0 (length r) k e (omega arith) l)
     go (no n) = let z : getD r k 0 ≡ 0 = List·getD-eq-default r 0 (omega arith) in omega arith
 
-unsound : (s : State) (tables : List ℕ) → eqb (toRun s) 0 ≡ false → (lowest (stepTests s tables) ≡ 0 → ⊥) → lowest (stepTests s tables) ≡ TABLE
+unsound : (s : State) (tables : BothTables) → eqb (toRun s) 0 ≡ false → (lowest (stepTests s tables) ≡ 0 → ⊥) → lowest (stepTests s tables) ≡ TABLE
 unfolding stepTests lowest
-unsound s tables e ne = rw e (go (not (sound (nextRow s tables))) (rw e at ne))
+unsound s tables e ne = rw e (go (not (allRead (editionOf (slotToRun s)) (s .flags (toRun s)) (nextRows s tables))) (rw e at ne))
   where
     go : (t : Bool) → (cond t TABLE 0 ≡ 0 → ⊥) → cond t TABLE 0 ≡ TABLE
     go true f = refl
@@ -160,17 +172,17 @@ module _ (h : Story) (c : Call) (did : Did DRAIN h c) where
   unfolding drainTests
   none = none-holds (drainTests (spoilt 1 (c .command)) s (c .areas .tables) (c .areas .log)) refl (made .none)
 
-  pub drain-whole : tablesBad (c .areas .tables) ≡ false
+  pub drain-whole : Whole (c .areas .tables)
   unfolding drainTests
-  drain-whole = none .1 .0
+  drain-whole = record { plain = eqb-true _ tableBytes (not-false _ (none .1 .0)); guarded = eqb-true _ guardedBytes (not-false _ (none .1 .1 .0)) }
 
   pub drain-closed : s .hand ≡ Nothing
   unfolding drainTests
-  drain-closed = closed-hand (s .hand) (none .1 .1 .1 .0)
+  drain-closed = closed-hand (s .hand) (none .1 .1 .1 .1 .0)
 
   log-whole : length (c .areas .log) ≡ logBytes
   unfolding drainTests
-  log-whole = eqb-true _ logBytes (not-false _ (none .1 .1 .0))
+  log-whole = eqb-true _ logBytes (not-false _ (none .1 .1 .1 .0))
 
   x : Answers s budget (c .areas) outcome (answerIn h c)
   x = answers-of s budget (c .areas) outcome (answerIn h c) (made .is)

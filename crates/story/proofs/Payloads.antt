@@ -14,8 +14,6 @@ use Rattle.ground.specs.Bools.{no-yes, eq-or}
 use Rattle.ground.specs.Bytes.{padded}
 use Rattle.ground.specs.Padding.{length-padded}
 use Rattle.chart.proofs.Theorems.{slot-size}
-use Rattle.chart.specs.Flat.{slotBytes}
-use Rattle.chart.specs.Numbers.{slotSize}
 use Rattle.pool.specs.Cell.{handedOut}
 use Rattle.pool.specs.Laws.{changed-other, found-lowest, pool-end}
 use Rattle.pool.specs.Row.{at, blocks, found, poolFor}
@@ -27,7 +25,7 @@ use Rattle.machine.proofs.Tests.{NoneHolds, none-holds, within-high, within-blo
 use Rattle.machine.specs.Events.{noneFound, newTests, newEvent, newIn, readTests, payloadOf, readPart}
 use Rattle.machine.specs.Inv.{isLive}
 use Rattle.machine.specs.Machine.{generation, payload, spoilt, spoiltNew, partOf}
-use Rattle.machine.specs.Numbers.{payloadBytes, recordBytes, capacity, placeOf}
+use Rattle.machine.specs.Numbers.{editionOf, payloadBytes, recordBytes, capacity, placeOf}
 use Rattle.machine.specs.Reply.{Areas, Answer, over, lowest}
 use Rattle.machine.specs.State.{State, sizeIn}
 use Rattle.story.specs.Calls.{Call, Story, fresh, then, kernel, answerIn, payloadArea, left, OnlyKernel}
@@ -37,11 +35,13 @@ use Rattle.story.specs.Terms.{argument, commandOf, number, event, Did, g
 use Rattle.story.proofs.Cells.{moves-live}
 use Rattle.story.proofs.Handles.{saidEvent, new-ends}
 use Rattle.story.proofs.Lasting.{fresh-each, turned}
+use Rattle.story.proofs.Lent.{before, lent, left-same, left-whole}
 use Rattle.story.proofs.Made.{Made, is-long, load-done, new-made, read-made}
 use Rattle.story.proofs.Over.{over-length, over-here, over-before, over-behind}
 use Rattle.story.proofs.Pairs.{drain-log}
 use Rattle.story.proofs.Refusals.{kept}
-use Rattle.story.proofs.Tables.{load-within, before, lent, left-same, left-whole, frame, does-not, does-so, unchanged-state, unchanged-areas}
+use Rattle.story.proofs.Slots.{filled-plain, filled-guarded}
+use Rattle.story.proofs.Tables.{load-within, frame, does-not, does-so, unchanged-state, unchanged-areas}
 
 -- The places of the blocks are apart, in order.
 places-apart : (b k : ℕ) → b < k → placeOf b + capacity b ≤ placeOf k
@@ -208,16 +208,22 @@ same-length : (f : Areas → List ℕ) (h : Story) (c : Call) (n : ℕ) → ((co
 same-length f h c n other this =
     ⊎-elim (λ d. ⊎-elim (λ e. this (e, d)) (λ ne. ap length (other ne)) (eq-or (commandOf c) n)) (λ ne. ap (λ z. length (f z)) (unchanged-areas h c ne)) (eq-or (number h c) 0)
 
-load-length : (h : Story) (c : Call) → Did LOAD h c → length (answerIn h c .areas .tables) ≡ length (c .areas .tables)
-load-length h c did =
+load-lengths : (h : Story) (c : Call) → Did LOAD h c → let t = answerIn h c .areas .tables in
+    (length (t .plain) ≡ length (c .areas .tables .plain)) × (length (t .guarded) ≡ length (c .areas .tables .guarded))
+load-lengths h c did =
+    let q = argument c 1 in
     let w = load-within h c did in
-    let e = load-done (kernel h) (c .command) (c .chart) (c .areas) (did .1) (did .0) .1 in
-    ap (λ a. length (a .areas .tables)) e ∙ over-length (c .areas .tables) (slotSize * argument c 1) (slotBytes (c .chart)) (omega (arith, slot-size (c .chart), w .0, w .1))
+    let long = slot-size (editionOf q) (c .chart) in
+    let e = load-done (kernel h) (c .command) (c .chart) (c .areas) (did .1) (did .0) .1 in (
+      ap (λ a. length (a .areas .tables .plain)) e ∙ filled-plain q _ (c .areas .tables) (w .1) (w .0) long,
+      ap (λ a. length (a .areas .tables .guarded)) e ∙ filled-guarded q _ (c .areas .tables) (w .1) (w .0) long,
+    )
 
 pub lengths : Demands.Lengths
 lengths h c = (
   same-length (λ z. z .payloads) h c NEW (frame h c .payloads) (λ did. new-length h c did (found (kernel h .cells) (argument c 2)) refl),
-  same-length (λ z. z .tables) h c LOAD (frame h c .tables) (load-length h c),
+  same-length (λ z. z .tables .plain) h c LOAD (λ ne. ap (λ t. t .plain) (frame h c .tables ne)) (λ did. load-lengths h c did .0),
+  same-length (λ z. z .tables .guarded) h c LOAD (λ ne. ap (λ t. t .guarded) (frame h c .tables ne)) (λ did. load-lengths h c did .1),
   same-length (λ z. z .log) h c DRAIN (frame h c .log) (drain-log h c),
 )
 

@@ -1,5 +1,5 @@
 -- Demand 3: what changes where an object rests, that it rests in a leaf, that no row is unsound, and that no accepted chart is turned away.
-use mathlib.Core.Bool.{Bool, true, false, cond, not, _||_}
+use mathlib.Core.Bool.{Bool, true, false, cond, not, _&&_, _||_}
 use mathlib.Core.List.{List, _∷_}
 use mathlib.Core.Logic.{inl, inr, ⊎-elim}
 use mathlib.Core.Path.{_≡_, refl, sym, ap, _∙_}
@@ -12,32 +12,32 @@ use lib.Seq.{getD-set-other, getD-set-same}
 use Rattle.ground.specs.Bools.{eq-or, no-yes}
 use Rattle.ground.specs.Bytes.{blank}
 use Rattle.ground.specs.Range.{everyFrom}
-use Rattle.chart.proofs.Agree.{start-sound}
 use Rattle.chart.specs.Chart.{classOf}
-use Rattle.chart.specs.Flat.{sound}
+use Rattle.chart.specs.Flat.{allRead, startSound}
 use Rattle.machine.proofs.KeepsSteps.{ready}
 use Rattle.machine.proofs.Parts.{started-deep}
 use Rattle.machine.proofs.Tests.{or-false, within-high}
-use Rattle.machine.specs.Charts.{tablesBad, slotUsed, loadTests, load, startRow, startedAt}
+use Rattle.machine.specs.Charts.{slotUsed, loadTests, load, startRow, startedAt}
 use Rattle.machine.specs.Machine.{spoilt, choose, command, answerTo}
-use Rattle.machine.specs.Numbers.{objects, slots, tableBytes, noObject, noDepth, noSlot, outside}
-use Rattle.machine.specs.Reply.{Areas, TABLE, lowest, unless, unlessFault, replyOf, bytes}
+use Rattle.machine.specs.Numbers.{objects, slots, guardedSlot, editionOf, tableBytes, noObject, noDepth, noSlot, outside}
+use Rattle.machine.specs.Reply.{Areas, BothTables, TABLE, lowest, unless, unlessFault, replyOf, bytes}
 use Rattle.machine.specs.State.{State, depthOf, restOf, slotOf, started, isLoaded, isOpen}
-use Rattle.machine.specs.Steps.{toRun, nextRow, stepped}
+use Rattle.machine.specs.Steps.{toRun, slotToRun, nextRows, stepped}
 use Rattle.mail.specs.Box.{queued}
-use Rattle.story.specs.Calls.{Call, Story, then, kernel, tableArea, OnlyKernel}
+use Rattle.story.specs.Calls.{Call, Story, then, kernel, leftTables, OnlyKernelTables}
 use Rattle.story.specs.Demands
 use Rattle.story.specs.Table
 use Rattle.story.specs.Table.{LOAD, START, NEXT, DRAIN, line, tableOf, applies}
 use Rattle.story.specs.Terms.{argument, commandOf, number, object, value₁, Did, chartIn, nextCall}
-use Rattle.story.proofs.Charted.{start-there, next-sound}
+use Rattle.story.proofs.Charted.{Charted, start-sound, same-start, same-rows, next-sound}
+use Rattle.story.proofs.Lent.{WholeFor, whole-for, not-bad, tables-before, tables-lent, slot-lent, tables-same}
 use Rattle.story.proofs.Made.{loadDone}
-use Rattle.story.proofs.Nested.{charted-lent, next-only}
+use Rattle.story.proofs.Nested.{next-only}
 use Rattle.story.proofs.Numbers.{idle-is}
 use Rattle.story.proofs.Pairs.{drained, drain-whole}
 use Rattle.story.proofs.Refusals.{kept, refused}
 use Rattle.story.proofs.Starting.{start-did}
-use Rattle.story.proofs.Tables.{charted, left-whole, frame, does-so, charts-same, load-unused, unchanged-state}
+use Rattle.story.proofs.Tables.{charted, frame, does-so, charts-same, load-unused, unchanged-state}
 use Rattle.story.proofs.Taking.{next-ready, next-steps}
 
 -- ## Where an object rests
@@ -126,10 +126,15 @@ seated h c p low on =
 
 -- ## No row is unsound
 -- what the lines of the table say of START and of NEXT where they do not apply, and of TABLE where it does
+neither : (a b c : Bool) → (a || ((b || false) && c || false)) ≡ false → (a ≡ false) × ((b && c) ≡ false)
+neither true b c e = no-yes (sym e)
+neither false true c e = (refl, or-false c false e .0)
+neither false false c e = (refl, refl)
+
 module _ (s : State) (r d : List ℕ) (z : Areas) where
-  start-area : line (tableOf 2 s r d z) false 2 ≡ false → tablesBad (z .tables) ≡ false
-  unfolding line tableOf Table.oneOf Table.otherLength
-  start-area e = or-false _ _ e .0
+  start-area : line (tableOf 2 s r d z) false 2 ≡ false → WholeFor (getD r 2 0) (z .tables)
+  unfolding line tableOf Table.oneOf Table.otherLength Table.usesGuarded
+  start-area e = let w = neither _ (eqb (getD r 2 0) guardedSlot) _ e in whole-for (getD r 2 0) (z .tables) (w .0) (w .1)
 
   start-slot : line (tableOf 2 s r d z) false 3 ≡ false → noSlot (getD r 2 0) ≡ false
   unfolding line tableOf Table.oneOf Table.arguments Table.someOutside Table.isOutside
@@ -142,64 +147,68 @@ module _ (s : State) (r d : List ℕ) (z : Areas) where
   unfolding line tableOf Table.oneOf
   start-loaded e = not-false _ e
 
-  start-unsound : line (tableOf 2 s r d z) false 15 ≡ true → sound (startRow (z .tables) (getD r 2 0)) ≡ false
-  unfolding line tableOf Table.oneOf
+  start-unsound : line (tableOf 2 s r d z) false 15 ≡ true → startSound (editionOf (getD r 2 0)) (startRow (z .tables) (getD r 2 0)) ≡ false
+  unfolding line tableOf Table.oneOf Table.unsound
   start-unsound e = unsound-of _ e
     where
       unsound-of : (b : Bool) → (not b || false) ≡ true → b ≡ false
       unsound-of true e = sym e
       unsound-of false e = refl
 
-  next-area : line (tableOf 12 s r d z) false 2 ≡ false → tablesBad (z .tables) ≡ false
-  unfolding line tableOf Table.oneOf Table.otherLength
-  next-area e = or-false _ _ e .0
+  next-area : line (tableOf 12 s r d z) false 2 ≡ false → eqb (toRun s) 0 ≡ false → WholeFor (slotToRun s) (z .tables)
+  unfolding line tableOf Table.oneOf Table.otherLength Table.usesGuarded
+  next-area e some = let w = neither _ (eqb (slotToRun s) guardedSlot) _ (rw some at e) in whole-for (slotToRun s) (z .tables) (w .0) (w .1)
 
   next-busy : line (tableOf 12 s r d z) false 6 ≡ false → eqb (queued (s .boxes)) 0 ≡ false
   unfolding line tableOf Table.oneOf
   next-busy e = e
 
-  next-unsound : line (tableOf 12 s r d z) false 15 ≡ true → sound (nextRow s (z .tables)) ≡ false
-  unfolding line tableOf Table.oneOf
+  next-unsound : line (tableOf 12 s r d z) false 15 ≡ true → allRead (editionOf (slotToRun s)) (s .flags (toRun s)) (nextRows s (z .tables)) ≡ false
+  unfolding line tableOf Table.oneOf Table.unsound
   next-unsound e = not-true _ e
 
   -- TABLE is for START and NEXT
   table-command : (n : ℕ) → (n ≡ 2 → ⊥) → (n ≡ 12 → ⊥) → line (tableOf n s r d z) false 15 ≡ false
-  unfolding line tableOf Table.oneOf
+  unfolding line tableOf Table.oneOf Table.unsound
   table-command n a b = rw (ne-eqb 2 n (λ e. a (sym e)), ne-eqb 12 n (λ e. b (sym e))) refl
 
-module _ (h : Story) (c : Call) (first : List ℕ) (only : OnlyKernel tableArea first (then h c)) where
+module _ (h : Story) (c : Call) (first : BothTables) (only : OnlyKernelTables first (then h c)) where
   abbrev Applies : ℕ → Bool
   Applies k = line (tableOf (commandOf c) (kernel h) (c .command) (c .chart) (c .areas)) false k
 
-  sound-row : (Applies 15 ≡ true) → ((m : ℕ) → m < 15 → Applies m ≡ false) → ⊥
-  sound-row this lower =
+  was : Charted (kernel h .loaded) (kernel h .objects) (leftTables first h) (chartIn h)
+  was = charted h first (tables-before first h c only)
+
+  no-unsound : (Applies 15 ≡ true) → ((m : ℕ) → m < 15 → Applies m ≡ false) → ⊥
+  no-unsound this lower =
       let s = kernel h in
       ⊎-elim (λ e.
       let q = argument c 2 in
-      let whole : length (c .areas .tables) ≡ tableBytes = eqb-true _ tableBytes (not-false _ (start-area s (c .command) (c .chart) (c .areas) (rw e at (lower 2 (omega arith))))) in
-      let x = charted-lent h c first only whole in
+      let whole = start-area s (c .command) (c .chart) (c .areas) (rw e at (lower 2 (omega arith))) in
       let l : q < slots = omega (arith, within-high 0 (slots - 1) q (start-slot s (c .command) (c .chart) (c .areas) (rw e at (lower 3 (omega arith))))) in
       let on : getD (s .loaded) q 0 ≡ 1 = eqb-true _ 1 (start-loaded s (c .command) (c .chart) (c .areas) (rw e at (lower 8 (omega arith)))) in
-      let row = start-there (c .areas .tables) q (chartIn h q) (x .table q l on) (x .good q l on) in
-      no-yes (sym (start-unsound s (c .command) (c .chart) (c .areas) (rw e at this)) ∙ ap sound row ∙ start-sound (chartIn h q) (x .good q l on)))
+      let row = same-start (c .areas .tables) (leftTables first h) q (slot-lent first h c only q whole) in
+      no-yes (sym (start-unsound s (c .command) (c .chart) (c .areas) (rw e at this)) ∙ ap (startSound (editionOf q)) row
+      ∙ start-sound (leftTables first h) q (chartIn h q) (was .table q l on) (was .good q l on)))
       (λ n2.
       ⊎-elim (λ e.
-      let whole : length (c .areas .tables) ≡ tableBytes = eqb-true _ tableBytes (not-false _ (next-area s (c .command) (c .chart) (c .areas) (rw e at (lower 2 (omega arith))))) in
-      let x = charted-lent h c first only whole in
-      let r = ready s (idle-is (s .boxes) ∙ next-busy s (c .command) (c .chart) (c .areas) (rw e at (lower 6 (omega arith)))) in
-      no-yes (sym (next-unsound s (c .command) (c .chart) (c .areas) (rw e at this)) ∙ next-sound s (c .areas .tables) (chartIn h) (kept h) r x))
+      let some = idle-is (s .boxes) ∙ next-busy s (c .command) (c .chart) (c .areas) (rw e at (lower 6 (omega arith))) in
+      let whole = next-area s (c .command) (c .chart) (c .areas) (rw e at (lower 2 (omega arith))) some in
+      let rows = same-rows s (c .areas .tables) (leftTables first h) (slot-lent first h c only (slotToRun s) whole) in
+      no-yes (sym (next-unsound s (c .command) (c .chart) (c .areas) (rw e at this)) ∙ ap (allRead (editionOf (slotToRun s)) (s .flags (toRun s))) rows
+      ∙ next-sound s (leftTables first h) (chartIn h) (kept h) (ready s some) was))
       (λ n12. no-yes (sym (table-command s (c .command) (c .chart) (c .areas) (commandOf c) n2 n12) ∙ this))
       (eq-or (commandOf c) NEXT))
       (eq-or (commandOf c) START)
 
   no-table : number h c ≡ TABLE → ⊥
   unfolding applies
-  no-table e = let w = refused h c TABLE (omega arith) .0 e in sound-row (w .0) (w .1)
+  no-table e = let w = refused h c TABLE (omega arith) .0 e in no-unsound (w .0) (w .1)
 
-  drain-only : Did DRAIN h c → OnlyKernel tableArea first (then (then h c) (nextCall c))
+  drain-only : Did DRAIN h c → OnlyKernelTables first (then (then h c) (nextCall c))
   drain-only did =
-      let whole : length (c .areas .tables) ≡ tableBytes = eqb-true _ tableBytes (not-false _ (drain-whole h c did)) in
-      next-only h c first only (then h c) only (left-whole tableArea first h c only whole ∙ frame h c .tables (λ e. omega (arith, did .0)))
+      next-only h c first only (then h c) only
+      (tables-same first h c only (frame h c .tables (λ e. omega (arith, did .0))) ∙ sym (tables-lent first h c only (drain-whole h c did)))
 
 stops-so : (t u : Bool) → _≡_ {A = ℕ} (cond t 1 (cond u 2 0)) 2 → (t ≡ false) × (u ≡ true)
 stops-so true u e = absurd (omega arith)
@@ -218,15 +227,25 @@ tableNever h c first only = (
 
 -- ## LOAD
 module _ (s : State) (q : ℕ) (d : List ℕ) (z : Areas) where
-  load-does : classOf d ≡ 0 → length (z .tables) ≡ tableBytes → q < slots → isOpen (s .hand) ≡ false → slotUsed s q objects ≡ false →
+  load-does : classOf (editionOf q) d ≡ 0 → WholeFor q (z .tables) → q < slots → isOpen (s .hand) ≡ false → slotUsed s q objects ≡ false →
       answerTo s (LOAD ∷ q ∷ replicate 70 0) d z ≡ loadDone q d s z
   unfolding answerTo command choose load loadTests lowest spoilt blank everyFrom outside unless unlessFault
   load-does good whole l closed unused =
-      rw (good, eq-eqb (length (z .tables)) tableBytes whole, closed, unused, le-ltb q 0 (omega arith), le-ltb 3 q (omega arith)) refl
+      rw (
+        good,
+        eq-eqb (length (z .tables .plain)) tableBytes (whole .plain),
+        not-bad q (z .tables) whole,
+        closed,
+        unused,
+        le-ltb q 0 (omega arith),
+        le-ltb 4 q (omega arith),
+      )
+      refl
 
 pub loads : Demands.Loads
 unfolding kernel replyOf bytes
-loads h c q e good whole l closed unused =
+loads h c q e good plain guarded l closed unused =
+    let whole : WholeFor q (c .areas .tables) = record { plain = plain; guarded = guarded } in
     let w = ap (λ r. answerTo (kernel h) r (c .chart) (c .areas)) e ∙ load-does (kernel h) q (c .chart) (c .areas) good whole l closed unused in (
       ap (λ a. getD (a .reply) 0 0) w,
       ap (λ a. getD (a .reply) 4 0) w,

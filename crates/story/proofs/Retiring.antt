@@ -52,7 +52,7 @@ module _ (s : State) (z : Areas) (g : ℕ) (some : 0 < length (s .cells)) where
 
 -- The two calls, and what the one after the other makes of it.
 abbrev lent : Areas
-lent = record { payloads = replicate payloadBytes 0; tables = []; log = [] }
+lent = record { payloads = replicate payloadBytes 0; tables = record { plain = []; guarded = [] }; log = [] }
 
 abbrev newCall : Call
 newCall = record { command = newRecord; bytes = new-bytes; chart = []; areas = lent }

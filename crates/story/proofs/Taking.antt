@@ -3,7 +3,6 @@ use mathlib.Core.List.{List, [], _∷_}
 use mathlib.Core.Path.{_≡_, refl, sym, subst}
 use Prim.Native.Nat.{ℕ, _-_, _≤_}
 use native.Mathlib.Omega.{arith}
-use borrow.Author.Tests.{eqb-true, not-false}
 use lib.ListN.{length, getD}
 use Rattle.mail.specs.Box.{rest}
 use Rattle.mail.specs.Laws.{highest-is, changed-here, changed-other}
@@ -13,21 +12,21 @@ use Rattle.pool.specs.Cell.{lastGeneration}
 use Rattle.pool.specs.Row.{generationAt}
 use Rattle.machine.proofs.KeepsSteps.{Ready, ready}
 use Rattle.machine.proofs.Tests.{none-holds}
-use Rattle.machine.specs.Numbers.{tableBytes}
-use Rattle.machine.specs.Reply.{Areas, Answer, answer, replyOf, bytes}
+use Rattle.machine.specs.Reply.{Areas, Answer, BothTables, answer, replyOf, bytes}
 use Rattle.machine.specs.State.{State}
-use Rattle.machine.specs.Steps.{toRun, coming, firstByte, generationIn, stepTests, nextTests, stepped, nextSays}
+use Rattle.machine.specs.Steps.{toRun, slotToRun, coming, firstByte, generationIn, stepTests, nextTests, stepped, nextSays}
 use Rattle.story.specs.Calls.{Call, Story, kernel, answerIn}
 use Rattle.story.specs.Demands.{Taken}
 use Rattle.story.specs.Table.{NEXT}
 use Rattle.story.specs.Terms.{object, generation, Did, Takes}
 use Rattle.story.proofs.Handles.{EndsWith, next-ends}
 use Rattle.story.proofs.Lasting.{last-most}
+use Rattle.story.proofs.Lent.{WholeFor, whole-for}
 use Rattle.story.proofs.Made.{next-made}
 use Rattle.story.proofs.Refusals.{kept}
 
 -- What NEXT answers, byte by byte, and where it leaves the kernel.
-pub record Steps (s : State) (tables : List ℕ) (a : Answer) : Type 0 where
+pub record Steps (s : State) (tables : BothTables) (a : Answer) : Type 0 where
   pub state : a .state ≡ stepped s tables
   pub object : getD (a .reply) 1 0 ≡ toRun s
   pub ends : EndsWith (firstByte (coming s)) (generationIn s (coming s)) (a .reply)
@@ -62,13 +61,14 @@ pub next-ready : (h : Story) (c : Call) → Did NEXT h c → Ready (kernel h)
 unfolding nextTests stepTests
 next-ready h c did =
     let m = next-made (kernel h) (c .command) (c .chart) (c .areas) (did .1) (did .0) in
-    ready (kernel h) (none-holds (nextTests _ (kernel h) (c .areas .tables)) refl (m .none) .1 .1 .1 .0)
+    ready (kernel h) (none-holds (nextTests _ (kernel h) (c .areas .tables)) refl (m .none) .1 .1 .1 .1 .0)
 
-pub next-whole : (h : Story) (c : Call) → Did NEXT h c → length (c .areas .tables) ≡ tableBytes
+pub next-whole : (h : Story) (c : Call) → Did NEXT h c → WholeFor (slotToRun (kernel h)) (c .areas .tables)
 unfolding nextTests stepTests
 next-whole h c did =
     let m = next-made (kernel h) (c .command) (c .chart) (c .areas) (did .1) (did .0) in
-    eqb-true _ tableBytes (not-false _ (none-holds (nextTests _ (kernel h) (c .areas .tables)) refl (m .none) .1 .0))
+    let n = none-holds (nextTests _ (kernel h) (c .areas .tables)) refl (m .none) in
+    whole-for (slotToRun (kernel h)) (c .areas .tables) (n .1 .0) (rw (n .1 .1 .1 .1 .0) at (n .1 .1 .0))
 
 pub empty : (l : List ℕ) → length l ≡ 0 → l ≡ []
 empty [] e = refl

@@ -3,6 +3,7 @@
 use Rattle.story.specs.Demands
 use Rattle.story.proofs.Aside
 use Rattle.story.proofs.Counting
+use Rattle.story.proofs.Flags
 use Rattle.story.proofs.Marks
 use Rattle.story.proofs.Nested
 use Rattle.story.proofs.Once
@@ -118,16 +119,30 @@ oldRefused = Once.oldRefused
 pub staysRetired : Demands.StaysRetired
 staysRetired = Once.staysRetired
 
+-- ## Document 02, request 8
+-- No FLAG that is done, or only one side of the equivalence: `Meets`, flags and still.
+pub flagged : Demands.Flagged
+flagged = Flags.flagged
+
+-- No START that is done: `Meets`, starts and sits.
+pub startsDown : Demands.StartsDown
+startsDown = Flags.startsDown
+
+-- No flag that changes: `Meets`, flags, since its value is 1.
+pub onlyFlag : Demands.OnlyFlag
+onlyFlag = Flags.onlyFlag
+
 -- ## Demand 3
--- Stories in which only the kernel writes to the tables, with no slot that is loaded: `Meets`, tables, honest and loads.
+-- Stories in which only the kernel writes to the tables, with no slot that is loaded, or none for guarded charts: `Meets`, tables, honest,
+-- loads and guards.
 pub tables : Demands.Tables
 tables = Nested.tables
 
--- No START that is done in such a story: `Meets`, starts.
+-- No START that is done in such a story: `Meets`, starts and sits.
 pub starts : Demands.Starts
 starts = Nested.starts
 
--- No NEXT that is done in such a story: `Meets`, nexts.
+-- No NEXT that is done in such a story: `Meets`, nexts and guarded.
 pub nexts : Demands.Nexts
 nexts = Nested.nexts
 

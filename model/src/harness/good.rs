@@ -256,7 +256,8 @@ pub fn many_tops() -> Vec<u8> {
 #[cfg(test)]
 mod tests {
     use super::*;
-    use crate::chart::{parse, sound, Chart, Flags, Outcome, MOST_ACTIONS, ROW_BYTES};
+    use crate::chart::{parse, Chart, Flags, Outcome, MOST_ACTIONS};
+    use crate::harness::sound_rows::rows_may_stand;
 
     fn chart(bytes: Vec<u8>) -> Chart {
         parse(Edition::Plain, &bytes).expect("a hard chart is good")
@@ -289,12 +290,7 @@ mod tests {
             for good in of(edition) {
                 let chart = parse(edition, &good.bytes);
                 let chart = chart.unwrap_or_else(|fault| panic!("{}: {:?}", good.name, fault));
-                let table = chart.table();
-                let mut rows = table.chunks(ROW_BYTES);
-                // Rows of absent states are zeros, and so are those of edition two that no row of the chart fills.
-                let may_stand = |row: &[u8]| sound(edition, row) || row.iter().all(|&b| b == 0);
-                assert!(rows.all(may_stand), "{}", good.name);
-                assert!(sound(edition, &table[..ROW_BYTES]), "{}", good.name);
+                assert!(rows_may_stand(edition, &chart), "{}", good.name);
             }
         }
     }

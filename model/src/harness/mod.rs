@@ -10,6 +10,8 @@ pub mod program;
 pub mod random;
 pub mod report;
 #[cfg(test)]
+mod sound_rows;
+#[cfg(test)]
 mod starts;
 pub mod traces;
 

@@ -9,7 +9,7 @@ use Rattle.drain.proofs.turn.Tie as tie
 -- An object without mail takes no step.
 returns : tie.Need-returns
 returns c =
-    let s = c .before .before .before .before in
+    let s = c .before .before .before .before .before in
     let a = s .args in (
       record {
         within = s .pre .within;
@@ -23,7 +23,7 @@ returns c =
 
 run-object-requires : tie.Need-run-object-requires
 run-object-requires c κs =
-    let s = c .before .before .before .before .before .before .before .before .before in
+    let s = c .before .before .before .before .before .before .before .before .before .before in
     (s .pre, omega (arith, c .before .before .before .before .before .if1 .left))
 
 pub turn-spec : {M : Type 1} → statement M

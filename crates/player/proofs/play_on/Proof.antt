@@ -17,8 +17,12 @@ Inv-loop most folder replies payloads₀ tables₀ guarded₀ log₀ run₀ payl
 abbrev μ-loop : tie.MeasureT-loop
 μ-loop most folder replies payloads₀ tables₀ guarded₀ log₀ run₀ payloads tables guarded log run = run .left
 
+-- each part by itself, since the search ends before it has all of them
+loop-again : tie.Need-loop-again Inv-loop μ-loop
+loop-again c = (search needs, search needs, search needs, search needs, search needs)
+
 pub play-on-spec : {M : Type 1} → statement M
 play-on-spec =
     tie.close
-    (tie.spec Inv-loop μ-loop (λ c κs. search needs) (λ c. search needs) (λ c κs. search needs) (λ c. search needs) (λ c. search needs) (λ c. search needs)
-    (λ c. search needs) (λ c. search needs) (λ c. search needs))
+    (tie.spec Inv-loop μ-loop (λ c κs. search needs) (λ c. search needs) (λ c κs. search needs) (λ c. search needs) loop-again (λ c. search needs)
+    (λ c. search needs) (λ c. search needs) (λ c. search needs) (λ c. search needs))

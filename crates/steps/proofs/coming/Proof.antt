@@ -1,5 +1,4 @@
 use borrow.Author.Needs.{needs}
-use mathlib.Core.List.{[]}
 use mathlib.Core.Path.{_≡_, refl, sym}
 use Rattle.drain.proofs.Laws.{coming-is}
 use Rattle.machine.specs.Steps.{coming}
@@ -19,7 +18,7 @@ front-requires c κs =
 -- The entry is that of the event that comes.
 event : (c : tie.After-front) → handOf (c .front .result) ≡ coming (stateOf (c .before .before .before .before .before .before .before .before .before .args .k))
 unfolding stateOf
-event c = let s = c .before .before .before .before .before .before .before .before .before in coming-is (stateOf (s .args .k)) [] (s .args .p) (s .pre .1 .0) (c .front .result) (c .front .ensures)
+event c = let s = c .before .before .before .before .before .before .before .before .before in coming-is (stateOf (s .args .k)) (s .args .p) (s .pre .1 .0) (c .front .result) (c .front .ensures)
 
 look-requires : tie.Need-look-requires
 look-requires c κs = rw (event (c .before .before)) (c .before .before .before .before .before .before .before .before .before .before .before .pre .1 .1 .event)

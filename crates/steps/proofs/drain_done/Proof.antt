@@ -4,6 +4,7 @@ use Prim.Native.Nat.{_≤_}
 use native.Mathlib.Omega.{arith}
 use Rattle.ground.specs.Padding.{zeros-at}
 use Rattle.machine.specs.Numbers.{mostSteps}
+use Rattle.machine.specs.Reply.{both}
 use Rattle.machine.specs.Steps.{drainDone, drainEnd}
 use Rattle.pool.specs.Row.{firstBytes}
 use Rattle.state.specs.View.{answered, stateOf}
@@ -15,9 +16,9 @@ use Rattle.steps.proofs.drain_done.Tie as tie
 run-requires : tie.Need-run-requires
 unfolding stateOf
 run-requires c κs =
-    let s = c .before .before .before .before .before .before .before .before .before .before .before .before .before .before .before .before .before .before in
+    let s = c .before .before .before .before .before .before .before .before .before .before .before .before .before .before .before .before .before .before .before .before .before in
     let a = s .args in
-    let g = c .before .before .before .before .before .before .before .before .before .generations in (
+    let g = c .before .before .before .before .before .before .before .before .before .before .before .generations in (
       (
         record {
           mail = mail-of (a .k) _ (s .good .0);
@@ -25,20 +26,21 @@ run-requires c κs =
           rests = s .pre .0 .0 .seats .rests-length;
           times = refl;
           few = λ b. omega (arith, zeros-at firstBytes b);
-          log = s .pre .1 .1;
+          log = s .pre .1 .2;
         },
         s .pre .1 .0,
+        s .pre .1 .1,
         omega (arith, s .pre .0 .2),
       ),
-      drain-fit (a .k) (g .result) (a .tables .now) (a .log .now) (g .ensures) (s .pre .0 .1) (s .pre .0 .0),
+      drain-fit (a .k) (g .result) (both (a .tables .now) (a .guarded .now)) (a .log .now) (g .ensures) (s .pre .0 .1) (s .pre .0 .0),
     )
 
 most : (c : tie.After-run) → c .run .result ≤ mostSteps
 most c =
-    let s = c .before .before .before .before .before .before .before .before .before .before .before .before .before .before .before .before .before .before .before in
+    let s = c .before .before .before .before .before .before .before .before .before .before .before .before .before .before .before .before .before .before .before .before .before .before in
     let a = s .args in
-    let g = c .before .before .before .before .before .before .before .before .before .before .generations in
-    omega (arith, s .pre .0 .2, steps-most (a .k) (g .result) (a .tables .now) (a .log .now) (g .ensures) (s .pre .0 .1) (s .pre .0 .0) (a .budget) _ (c .run .ensures .1))
+    let g = c .before .before .before .before .before .before .before .before .before .before .before .before .generations in
+    omega (arith, s .pre .0 .2, steps-most (a .k) (g .result) (both (a .tables .now) (a .guarded .now)) (a .log .now) (g .ensures) (s .pre .0 .1) (s .pre .0 .0) (a .budget) _ (c .run .ensures .1))
 
 cast-done : tie.Need-cast-done
 cast-done c = omega (arith, most (c .before .before .before .before .before .before))
@@ -46,12 +48,12 @@ cast-done c = omega (arith, most (c .before .before .before .before .before .bef
 returns : tie.Need-returns
 unfolding answered stateOf drainDone drainEnd
 returns c = λ p.
-    let s = c .before .before .before .before .before .before .before .before .before .before .before .before .before .before .before .before .before .before .before .before .before .before .before .before .before .before in
+    let s = c .before .before .before .before .before .before .before .before .before .before .before .before .before .before .before .before .before .before .before .before .before .before .before .before .before .before .before .before .before in
     let a = s .args in
-    let g = c .before .before .before .before .before .before .before .before .before .before .before .before .before .before .before .before .before .generations in
+    let g = c .before .before .before .before .before .before .before .before .before .before .before .before .before .before .before .before .before .before .before .generations in
     let run = c .before .before .before .before .before .before .before .run in
     rw (
-      drained-is (a .k) (g .result) (a .tables .now) (a .log .now) (g .ensures) (s .pre .0 .1) (s .pre .0 .0) (a .budget) _ (run .ensures .1),
+      drained-is (a .k) (g .result) (both (a .tables .now) (a .guarded .now)) (a .log .now) (g .ensures) (s .pre .0 .1) (s .pre .0 .0) (a .budget) _ (run .ensures .1),
       c .before .before .before .let-go-each .ensures .0,
       c .before .before .before .let-go-each .ensures .1,
       c .done .ensures,
