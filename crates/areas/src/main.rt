@@ -109,9 +109,7 @@ fn call_and_tell(
     let answered = call(k, head, record, chart, payloads, tables, guarded, log);
     let next = answered.kernel;
     let reply = answered.reply;
-    tell(
-        next, head, record, reply, payloads, tables, guarded, log,
-    );
+    tell(next, head, record, reply, payloads, tables, guarded, log);
     next
 }
 
@@ -171,9 +169,7 @@ fn turn(
         };
     }
     Run {
-        kernel: make(
-            k, head, &record, &chart, payloads, tables, guarded, log,
-        ),
+        kernel: make(k, head, &record, &chart, payloads, tables, guarded, log),
         goes_on: true,
     }
 }

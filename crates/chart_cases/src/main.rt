@@ -5,9 +5,9 @@
 
 ghost use Prim.Native.Nat.{_≤_};
 ghost use lib.ListN.{length};
+use chart::read::Edition;
 use input::low_byte_first;
 use input::read_exactly;
-use chart::read::Edition;
 use numbers::FLAG_IN_ROW;
 use numbers::GUARDED_AREA;
 use numbers::ROW_BYTES;
@@ -108,12 +108,7 @@ fn run_plain(chart: &[u8], rows: bool) {
 fn run_guarded(chart: &[u8], rows: bool) {
     let mut slot = [FILL; GUARDED_AREA];
     let class = flattener::chart_flatten_guarded(chart, &mut slot);
-    tell(
-        class,
-        flattener::chart_check_guarded(chart),
-        &slot,
-        rows,
-    );
+    tell(class, flattener::chart_check_guarded(chart), &slot, rows);
 }
 
 fn run_chart(edition: Edition, chart: &[u8], rows: bool) {

@@ -22,23 +22,11 @@ pub fn load_command(
     ensures { λ r. ⌜ ((p l : List ℕ) → answered r (areas p (now (tables .exit)) (now (guarded .exit)) l)
         ≡ command 1 (now («record» .entry)) (now (chart .entry)) (stateOf k) (areas p (now (tables .entry)) (now (guarded .entry)) l)) ⌝ }
 {
-    super::load(
-        k,
-        spoilt(record, 1),
-        arg(record, 1),
-        chart,
-        tables,
-        guarded,
-    )
+    super::load(k, spoilt(record, 1), arg(record, 1), chart, tables, guarded)
 }
 
 // START p, slot, depth.
-pub fn start_command<'a>(
-    k: Kernel,
-    record: &[u8],
-    tables: &'a [u8],
-    guarded: &'a [u8],
-) -> Answered
+pub fn start_command<'a>(k: Kernel, record: &[u8], tables: &'a [u8], guarded: &'a [u8]) -> Answered
     requires { ⌜ Good k ⌝ }
     ensures { λ r. ⌜ ((d p l : List ℕ) → answered r (areas p (now (tables .entry)) (now (guarded .entry)) l)
         ≡ command 2 (now («record» .entry)) d (stateOf k) (areas p (now (tables .entry)) (now (guarded .entry)) l)) ⌝ }

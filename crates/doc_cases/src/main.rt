@@ -83,7 +83,15 @@ fn answer_command(
     let n = run.written;
     let bytes = record.bytes;
     let size = io::count(record.size as isize, &bytes);
-    let answered = answer(k, &bytes[..size], &chart[..n], payloads, tables, guarded, log);
+    let answered = answer(
+        k,
+        &bytes[..size],
+        &chart[..n],
+        payloads,
+        tables,
+        guarded,
+        log,
+    );
     let reply = answered.reply;
     text::write(text::with_reply(line, reply));
     let next = answered.kernel;

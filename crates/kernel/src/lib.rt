@@ -115,15 +115,6 @@ pub fn command(
         (areas (now (payloads .entry)) (now (tables .entry)) (now (guarded .entry)) (now (log .entry))) ⌝ }
 {
     let mut reply = [0u8; REPLY_BYTES];
-    let kernel = answer_to(
-        k,
-        record,
-        chart,
-        payloads,
-        tables,
-        guarded,
-        log,
-        &mut reply,
-    );
+    let kernel = answer_to(k, record, chart, payloads, tables, guarded, log, &mut reply);
     Answered { kernel, reply }
 }

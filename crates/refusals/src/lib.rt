@@ -60,14 +60,7 @@ fn outside(low: usize, high: usize, n: usize) -> bool
 }
 
 // LOAD.
-pub fn load_refusal(
-    spoilt: bool,
-    bad: bool,
-    guarded: bool,
-    q: usize,
-    busy: bool,
-    used: bool,
-) -> u8
+pub fn load_refusal(spoilt: bool, bad: bool, guarded: bool, q: usize, busy: bool, used: bool) -> u8
     ensures { λ r. ⌜ r ≡ lowest ((said.FORM, spoilt) ∷ (said.AREA, bad) ∷ (said.AREA, guarded) ∷ (said.RANGE, noSlot q) ∷ (said.BUSY, busy)
         ∷ (said.TAKEN, used) ∷ []) ⌝ }
 {
@@ -108,14 +101,7 @@ pub fn start_refusal(
 }
 
 // FLAG.
-pub fn flag_refusal(
-    spoilt: bool,
-    p: usize,
-    f: usize,
-    v: usize,
-    busy: bool,
-    started: bool,
-) -> u8
+pub fn flag_refusal(spoilt: bool, p: usize, f: usize, v: usize, busy: bool, started: bool) -> u8
     ensures { λ r. ⌜ r ≡ lowest ((said.FORM, spoilt) ∷ (said.RANGE, noObject p) ∷ (said.RANGE, noFlag f) ∷ (said.RANGE, noValue v)
         ∷ (said.BUSY, busy) ∷ (said.ABSENT, not started) ∷ []) ⌝ }
 {
@@ -191,14 +177,7 @@ pub fn read_refusal(spoilt: bool, bad: bool, b: usize, stale: bool) -> u8
 }
 
 // NEXT.
-pub fn next_refusal(
-    spoilt: bool,
-    bad: bool,
-    guarded: bool,
-    busy: bool,
-    p: usize,
-    sound: bool,
-) -> u8
+pub fn next_refusal(spoilt: bool, bad: bool, guarded: bool, busy: bool, p: usize, sound: bool) -> u8
     ensures { λ r. ⌜ r ≡ lowest ((said.FORM, spoilt) ∷ (said.AREA, bad) ∷ (said.AREA, guarded) ∷ (said.BUSY, busy) ∷ (said.IDLE, eqb p 0)
         ∷ (said.TABLE, not sound) ∷ []) ⌝ }
 {

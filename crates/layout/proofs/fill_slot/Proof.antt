@@ -3,7 +3,7 @@ use borrow.Author.Tests.{eq-eqb, ne-eqb}
 use mathlib.Core.Path.{_≡_, refl, sym, ap, _∙_}
 use Prim.Native.Nat.{_+_, _*_, _-_, _<_}
 use native.Mathlib.Omega.{arith}
-use lib.ListN.{length, take, drop}
+use lib.ListN.{take, drop}
 use Rattle.chart.proofs.Theorems.{slot-size}
 use Rattle.chart.specs.Numbers.{slotSize}
 use Rattle.chart.specs.declared.read.Edition.the-variants.{Guarded, Plain}

@@ -1,5 +1,4 @@
 use borrow.Author.Needs.{needs}
-use mathlib.Core.Path.{_∙_}
 use Rattle.charts.proofs.flags.changed.Statement.{statement}
 use Rattle.charts.proofs.flags.changed.Tie as tie
 
