@@ -6,10 +6,9 @@ use mathlib.Core.Path.{_≡_, refl, sym, ap, _∙_}
 use Prim.Native.Nat.{ℕ, zero, suc, _+_, _*_, _-_, _<_, _≤_}
 use native.Mathlib.Omega.{arith}
 use borrow.Author.Tests.{eq-eqb, ne-eqb}
-use borrow.Rule.Slice.PartMut.{putMid, midOf}
+use borrow.Rule.Slice.PartMut.{putMid}
 use lib.Dec.{eqb}
 use lib.ListN.{length, getD, length-drop, List·getD-eq-default}
-use lib.Seq.{length-take-le}
 use Rattle.chart.proofs.Theorems.{reading-gives, reading-row, reading-sound, row-of-answer, sound-is}
 use Rattle.chart.specs.Flags.{Flags}
 use Rattle.chart.specs.Flat.{allRead, place, rowAt}
@@ -34,21 +33,15 @@ use Rattle.pool.specs.Row.{blocks, generationAt}
 use Rattle.drain.specs.Lent.{Above, Generations, Lies, Looks, Runs}
 use Rattle.drain.specs.declared.Coming.{Coming}
 
--- line n of the log: the part that it takes, and how that comes back
-module _ (log line : List ℕ) (n : ℕ) (l : length log ≡ logBytes) (h : n < mostSteps) (e : length line ≡ replyBytes) where
-  pub line-part : let a = replyBytes * n in length line ≡ length (midOf a (a + replyBytes - a) log)
-  line-part =
-      let a = replyBytes * n in
-      let z : a + replyBytes - a ≡ replyBytes = omega arith in
-      e ∙ sym (length-take-le (a + replyBytes - a) _ (rw length-drop (omega arith)) ∙ z)
-
-  pub log-line : (v : List ℕ) → v ≡ line → let a = replyBytes * n in putMid a (a + replyBytes - a) log v ≡ over log a line
-  unfolding over
-  log-line v w =
-      let a = replyBytes * n in
-      let k = a + replyBytes - a in
-      let z : k ≡ replyBytes = omega arith in
-      part-over a k log v (ap length w ∙ e ∙ sym z) ∙ rw w refl
+-- line n of the log, as the part that is written comes back
+pub log-line : (log line : List ℕ) (n : ℕ) → length log ≡ logBytes → n < mostSteps → length line ≡ replyBytes → (v : List ℕ) → v ≡ line →
+    let a = replyBytes * n in putMid a (a + replyBytes - a) log v ≡ over log a line
+unfolding over
+log-line log line n l h e v w =
+    let a = replyBytes * n in
+    let k = a + replyBytes - a in
+    let z : k ≡ replyBytes = omega arith in
+    part-over a k log v (ap length w ∙ e ∙ sym z) ∙ rw w refl
 
 -- Mailboxes of which those from p on are empty.
 module _ (bs : List (List ℕ)) (p : ℕ) (above : Above p bs) where

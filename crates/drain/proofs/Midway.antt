@@ -1,13 +1,17 @@
 -- A run in the midst of the steps of object p, and one step more of it.
+use mathlib.Core.Bool.{Bool, true, false, cond}
 use mathlib.Core.List.{List}
 use mathlib.Core.Path.{_≡_, refl, sym, ap, _∙_}
 use Prim.Native.Nat.{ℕ, _+_, _*_, _-_, _<_, _≤_}
-use native.Mathlib.Decide.{decLt, ℕ-discrete}
+use native.Mathlib.Decide.{decLt}
 use native.Mathlib.Omega.{arith}
-use lib.ListN.{length, getD, set, length-set}
-use lib.Seq.{getD-set-same, getD-set-other, set-getD, set-out, set-set}
+use lib.Dec.{eqb}
+use lib.ListN.{length, getD, set, length-set, List·getD-eq-default}
+use lib.Seq.{set-getD, set-set}
 use Rattle.chart.specs.Flags.{Flags}
 use Rattle.chart.specs.Step.{Answer}
+use Rattle.ground.specs.Range.{tab}
+use Rattle.ground.specs.Tab.{getD-tab, length-tab}
 use Rattle.machine.specs.Numbers.{replyBytes}
 use Rattle.machine.specs.Reply.{BothTables, over, replyOf, ran}
 use Rattle.machine.specs.Run.{Run, onward, seen}
@@ -16,8 +20,7 @@ use Rattle.machine.specs.Steps.{toRun, coming, nextAnswer, nextSays, logged}
 use Rattle.mail.specs.Box.{boxAt, front, highest, tookFirst}
 use Rattle.mail.specs.Laws.{changed-length, changed-other, first-front, first-length, first-more, first-none}
 use Rattle.mail.specs.View.{Holds, boxes, boxes-length, queued-in}
-use Rattle.pool.specs.Laws.{once-more-set}
-use Rattle.pool.specs.Row.{firstBytes}
+use Rattle.pool.specs.Row.{firstBytes, onceMore}
 use Rattle.drain.specs.Lent.{Above, Looks, Sized, midway, runAt}
 use Rattle.drain.specs.declared.Coming.{Coming}
 use Rattle.drain.proofs.Laws.{top-is}
@@ -43,20 +46,37 @@ sized-back pl hs cs rs ts lg q rest n hs' cs' rs' bs z h e = record {
   log = z .log;
 }
 
-pub sized-on : (pl hs cs rs ts lg lg' : List ℕ) (b n : ℕ) → Sized pl hs cs rs ts lg n → length lg' ≡ length lg → Sized pl hs cs rs (set ts b (getD ts b 0 + 1)) lg' (n + 1)
+module _ (ts : List ℕ) (b : ℕ) where
+  abbrev more : ℕ → ℕ
+  more k = getD ts k 0 + cond (eqb k b) 1 0
+
+  more-length : length (onceMore ts b) ≡ firstBytes
+  unfolding onceMore
+  more-length = length-tab more firstBytes
+
+  one-more : (t : Bool) (m n : ℕ) → m ≤ n → m + cond t 1 0 ≤ n + 1
+  one-more true m n h = omega arith
+  one-more false m n h = omega arith
+
+  more-few : (n k : ℕ) → getD ts k 0 ≤ n → getD (onceMore ts b) k 0 ≤ n + 1
+  unfolding onceMore
+  more-few n k h = go (decLt k firstBytes)
+    where
+      go : Dec (k < firstBytes) → getD (tab more firstBytes) k 0 ≤ n + 1
+      go (yes l) = rw (getD-tab more firstBytes k 0 l) (one-more (eqb k b) (getD ts k 0) n h)
+      go (no l) =
+          let past : length (tab more firstBytes) ≤ k = omega (arith, length-tab more firstBytes) in
+          rw (List·getD-eq-default (tab more firstBytes) 0 past) (omega arith)
+
+pub sized-on : (pl hs cs rs ts lg lg' : List ℕ) (b n : ℕ) → Sized pl hs cs rs ts lg n → length lg' ≡ length lg → Sized pl hs cs rs (onceMore ts b) lg' (n + 1)
 sized-on pl hs cs rs ts lg lg' b n z e = record {
   mail = z .mail;
   counts = z .counts;
   rests = z .rests;
-  times = rw length-set (z .times);
-  few = λ k. few k (ℕ-discrete k b) (decLt b (length ts));
+  times = more-length ts b;
+  few = λ k. more-few ts b n k (z .few k);
   log = e ∙ z .log;
 }
-  where
-    few : (k : ℕ) → Dec (k ≡ b) → Dec (b < length ts) → getD (set ts b (getD ts b 0 + 1)) k 0 ≤ n + 1
-    few k (yes h) (yes l) = rw (h, getD-set-same ts b (getD ts b 0 + 1) 0 l) (omega (arith, z .few b))
-    few k (yes h) (no l) = rw (set-out ts b (getD ts b 0 + 1) (omega arith)) (omega (arith, z .few k))
-    few k (no h) d = rw (getD-set-other ts b k (getD ts b 0 + 1) 0 h) (omega (arith, z .few k))
 
 -- the mailboxes, of which those from p on are empty, when object p, the next below, has taken k of its entries
 module _ (pl hs cs : List ℕ) (p k : ℕ) (within : p - 1 < length cs) where
@@ -91,10 +111,9 @@ module _ (gens signals seats : List ℕ) (flags : ℕ → Flags) (tables : BothT
   s = seen gens signals seats flags x
 
   pub onward-is : from ≤ n → p ≡ toRun s → (l : Coming) → Looks s (coming s) l → (a : Answer) → a ≡ nextAnswer s tables →
-      length ts ≡ firstBytes → l .first < firstBytes →
-      midway pl hs cs rs (set ts (l .first) (getD ts (l .first) 0 + 1)) (over lg (replyBytes * n) (replyOf (ran p (l .signal) (l .first) (l .generation) a)))
+      midway pl hs cs rs (onceMore ts (l .first)) (over lg (replyBytes * n) (replyOf (ran p (l .signal) (l .first) (l .generation) a)))
       (p - 1) from (a .next) (n + 1) ≡ onward gens signals seats flags tables x
   unfolding onward logged nextSays
-  onward-is since e l w a r long small =
+  onward-is since e l w a r =
       let z : n + 1 - from ≡ n - from + 1 = omega arith in
-      rw (z, ← first-more (boxes pl hs cs) (p - 1) (n - from), once-more-set ts (l .first) long small, w .signal, w .first, w .generation, r, ← e, set-set) refl
+      rw (z, ← first-more (boxes pl hs cs) (p - 1) (n - from), w .signal, w .first, w .generation, r, ← e, set-set) refl

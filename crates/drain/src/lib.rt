@@ -1,25 +1,29 @@
 // Steps: what NEXT reads of the event that comes, and DRAIN's steps over arrays that the kernel lends. The steps leave the blocks alone:
 // they note how often each is let go, and the kernel then lets go of all of them.
+mod guarded_slot;
+mod plain_slot;
+
 ghost use mathlib.Core.Bool.{cond};
 ghost use mathlib.Core.List.{List};
 ghost use mathlib.Core.Path.{_≡_};
-ghost use Prim.Native.Nat.{ℕ, _-_, _<_, _≤_};
+ghost use Prim.Native.Nat.{ℕ, _*_, _-_, _<_, _≤_};
 ghost use lib.Dec.{eqb, ltb};
 ghost use lib.ListN.{getD, length, set};
 ghost use Rattle.chart.specs.Flags.{inWords};
 ghost use Rattle.chart.specs.Held.{answerAt, isSound};
 ghost use Rattle.machine.specs.Inv.{IsEvent};
-ghost use Rattle.machine.specs.Numbers.{tableBytes, guardedBytes, mostSteps};
-ghost use Rattle.machine.specs.Reply.{both, replyOf, ran};
+ghost use Rattle.machine.specs.Numbers.{tableBytes, guardedBytes, logBytes, mostSteps, replyBytes};
+ghost use Rattle.machine.specs.Reply.{both, over, replyOf, ran};
 ghost use Rattle.machine.specs.Run.{FitRun, blockOf, runFrom};
 ghost use Rattle.machine.specs.State.{State};
 ghost use Rattle.mail.specs.Box.{highest, tookFirst};
 ghost use Rattle.mail.specs.Entry.{handOf};
 ghost use Rattle.mail.specs.View.{Holds, Mail, boxes};
+ghost use Rattle.pool.specs.Row.{firstBytes, onceMore};
 ghost use Rattle.drain.specs.Lent.{Generations, Lies, Looks, Ready, Runs, Sized, Stretch, runAt};
 use chart::Reading;
+use chart::read::Edition;
 use ground::copy;
-use ground::least;
 use ground::wide;
 use mail::Hand;
 use numbers::ALL_PLACES;
@@ -30,7 +34,6 @@ use numbers::OBJECTS;
 use numbers::REPLY_BYTES;
 use numbers::ROW_BYTES;
 use slots::edition_of;
-use slots::table_of;
 
 // What NEXT answers for a timer: 128 + t, then 0.
 const TIMER: u8 = 128;
@@ -147,59 +150,17 @@ fn settle(
     rests[q] = rest;
 }
 
-// The steps of object p, which has mail where no higher one has, from step `from` of a run on: how many steps the run has then. The
-// state of rest and the mailbox are written back at the end.
-fn run_object<'a>(
-    places: &[u16; ALL_PLACES],
-    heads: &mut [u8; OBJECTS],
-    counts: &mut [u8; OBJECTS],
-    rests: &mut [u8; OBJECTS],
-    seats: &[u8; OBJECTS],
-    signals: &[u8; BLOCKS],
-    gens: &[u32; BLOCKS],
-    flags: &[u64; FLAGS],
-    times: &mut [u8; FIRST_BYTES],
-    tables: &'a [u8],
-    guarded: &'a [u8],
-    log: &mut [u8],
-    budget: usize,
-    p: usize,
-    from: usize,
-) -> usize
-    requires { ⌜ Ready (now gens) (now signals) (now seats) (inWords (now flags)) (both (now tables) (now guarded)) (now places) (now heads) (now counts) (now rests) (now times) (now log) p budget from ⌝ }
-    requires { ⌜ 0 < getD (now counts) (p - 1) 0 ⌝ }
-    ensures { λ r. ⌜ Stretch (now (gens .entry)) (now (signals .entry)) (now (seats .entry)) (inWords (now (flags .entry))) (both (now (tables .entry)) (now (guarded .entry))) p budget
-        (runAt (now (places .entry)) (now (heads .entry)) (now (counts .entry)) (now (rests .entry)) (now (times .entry)) (now (log .entry)) from)
-        (runAt (now (places .entry)) (now (heads .exit)) (now (counts .exit)) (now (rests .exit)) (now (times .exit)) (now (log .exit)) r) ⌝ }
-    ensures { λ r. ⌜ Sized (now (places .entry)) (now (heads .exit)) (now (counts .exit)) (now (rests .exit)) (now (times .exit)) (now (log .exit)) r ⌝ }
+// Step n of a run, which took the event of a handle, is noted: its line in the log, and that the event is let go once more.
+fn note(log: &mut [u8], times: &mut [u8; FIRST_BYTES], n: usize, first: u8, line: [u8; REPLY_BYTES])
+    requires { ⌜ (length (now log) ≡ logBytes) × (length (now times) ≡ firstBytes) × (n < mostSteps) × ((b : ℕ) → getD (now times) b 0 ≤ n) ⌝ }
+    ensures { λ _. ⌜ (now (log .exit) ≡ over (now (log .entry)) (replyBytes * n) line) × (now (times .exit) ≡ onceMore (now (times .entry)) first) ⌝ }
 {
-    let q = p - 1;
-    let seat = wide(seats[q]);
-    let edition = edition_of(seat);
-    let table = table_of(tables, guarded, seat);
-    let end = least(from + wide(counts[q]), budget);
-    let mut rest = rests[q];
-    let mut n = from;
-    while n < end {
-        let e = mail::entry(places, heads, counts, q, n - from);
-        let l = look(signals, gens, e);
-        let found = chart::find_row(edition, table, rest, l.signal, flags, p);
-        if !is_sound(found) {
-            settle(heads, counts, rests, q, n - from, rest);
-            return n;
-        }
-        rest = next_rest(table, found, rest);
-        let line = answer(p, l, table, found);
-        copy(
-            &mut log[REPLY_BYTES * n..REPLY_BYTES * n + REPLY_BYTES],
-            &line,
-        );
-        let b = wide(l.first);
-        times[b] += 1;
-        n += 1;
-    }
-    settle(heads, counts, rests, q, n - from, rest);
-    n
+    copy(
+        &mut log[REPLY_BYTES * n..REPLY_BYTES * n + REPLY_BYTES],
+        &line,
+    );
+    let b = wide(first);
+    times[b] += 1;
 }
 
 // The steps of object p, if it has mail.
@@ -229,23 +190,42 @@ fn turn<'a>(
     if counts[p - 1] == 0 {
         return from;
     }
-    run_object(
-        places,
-        heads,
-        counts,
-        rests,
-        seats,
-        signals,
-        gens,
-        flags,
-        times,
-        tables,
-        guarded,
-        log,
-        budget,
-        p,
-        from,
-    )
+    match edition_of(wide(seats[p - 1])) {
+        Edition::Plain => plain_slot::run_object(
+            places,
+            heads,
+            counts,
+            rests,
+            seats,
+            signals,
+            gens,
+            flags,
+            times,
+            tables,
+            guarded,
+            log,
+            budget,
+            p,
+            from,
+        ),
+        Edition::Guarded => guarded_slot::run_object(
+            places,
+            heads,
+            counts,
+            rests,
+            seats,
+            signals,
+            gens,
+            flags,
+            times,
+            tables,
+            guarded,
+            log,
+            budget,
+            p,
+            from,
+        ),
+    }
 }
 
 // DRAIN's steps, at most as many as the budget: how many were taken, and how often each block is to be let go.

@@ -38,7 +38,7 @@ unfolding stateOf
 generations-of k gens e b h = rw e (sym (getD-tab (generationAt (cells (k .pool))) blocks b 0 h))
 
 -- where an earlier test holds, the last one does not count
-pub last-test : (l : List (ℕ × Bool)) (m : ℕ) (t : Bool) → (lowest (l ++ ((m, false) ∷ [])) ≡ 0 → ⊥) → lowest (l ++ ((m, false) ∷ [])) ≡ lowest (l ++ ((m, t) ∷ []))
+last-test : (l : List (ℕ × Bool)) (m : ℕ) (t : Bool) → (lowest (l ++ ((m, false) ∷ [])) ≡ 0 → ⊥) → lowest (l ++ ((m, false) ∷ [])) ≡ lowest (l ++ ((m, t) ∷ []))
 unfolding lowest
 last-test [] m t ne = absurd (ne refl)
 last-test ((n, true) ∷ l) m t ne = refl
