@@ -4,61 +4,24 @@ use mathlib.Core.List.{List, [], _∷_, _++_, append-assoc, append-nil}
 use mathlib.Core.Logic.{⊎-elim}
 use mathlib.Core.Path.{_≡_, refl, sym, ap, _∙_}
 use Prim.Native.Nat.{ℕ, zero, suc, _+_, _-_, _*_, _/_, _%_, _≤_, _<_}
-use native.Mathlib.Nat.{le-of-lt, le-refl}
-use native.Mathlib.Numerals.{add-one}
+use native.Mathlib.Nat.{le-refl}
 use native.Mathlib.Omega.{arith}
 use borrow.Author.Tests.{le-leb, lt-leb, eq-eqb, ne-eqb}
 use borrow.Rule.Slice.PartMut.{putMid}
 use lib.Dec.{eqb, leb}
-use lib.ListN.{length, getD, set, take, drop, replicate, length-append, length-drop, drop-of-length-le, List·getD-append}
-use lib.Seq.{getD-append-add, drop-cons, drop-drop, drop-at, take-at, take-suc, take-all, length-take-le, set-at, set-append-seam}
+use lib.ListN.{length, getD, take, drop, replicate, length-append, length-drop, drop-of-length-le}
+use lib.Seq.{drop-drop, drop-at, take-at, set-append-seam}
 use Rattle.ground.specs.Bools.{cond-pick, eq-or}
 use Rattle.ground.specs.Parts.{tail-part}
 use Rattle.ground.specs.Bytes.{padded}
-use Rattle.ground.specs.Padding.{length-padded, padded-short, zeros-at}
+use Rattle.ground.specs.Padding.{length-padded, padded-short}
 use Rattle.chart.specs.Chart.{states, hasRow, flagOf, outward, parent, path}
 use Rattle.chart.specs.Flat.{rowOf, rowsOut, behind, rowNo, rowsFrom, slotBytes}
 use Rattle.chart.specs.Held.{nthOut, pushed, pushAll, outOf, rowBytes, rowOr}
-use Rattle.chart.specs.Numbers.{Edition, Plain, Guarded, each, firstSignal, flagByte, levels, mostActions, rowCount, rowSize, signalCount, slotSize}
+use Rattle.chart.specs.Numbers.{Edition, Plain, Guarded, each, firstSignal, levels, mostActions, rowCount, rowSize, signalCount, slotSize}
 use Rattle.chart.specs.Step.{Answer, answerBy, start}
 use Rattle.chart.specs.declared.step.Acts.{Acts}
-use Rattle.chart.specs.declared.table.Row.{Row}
 use Rattle.chart.proofs.Laws.{path-top, path-cons}
-
--- ## A row's bytes, one by one
-module _ (x y z f : ℕ) (a : List ℕ) (l : length a ≡ mostActions) where
-  pub row-act : (j : ℕ) → (j ≡ 0 → ⊥) → (j ≡ 1 → ⊥) → (j ≡ 2 → ⊥) → j < flagByte → getD (x ∷ y ∷ z ∷ (a ++ (f ∷ 0 ∷ 0 ∷ []))) j 0 ≡ getD a (j - 3) 0
-  row-act j h0 h1 h2 h =
-      let e : j ≡ suc (suc (suc (j - 3))) = omega arith in
-      ap (λ n. getD (x ∷ y ∷ z ∷ (a ++ (f ∷ 0 ∷ 0 ∷ []))) n 0) e ∙ List·getD-append a _ 0 (j - 3) (omega arith)
-
-  row-behind : (i : ℕ) → getD (x ∷ y ∷ z ∷ (a ++ (f ∷ 0 ∷ 0 ∷ []))) (flagByte + i) 0 ≡ getD (f ∷ 0 ∷ 0 ∷ []) i 0
-  row-behind i =
-      let e : flagByte + i ≡ suc (suc (suc (length a + i))) = omega arith in
-      ap (λ n. getD (x ∷ y ∷ z ∷ (a ++ (f ∷ 0 ∷ 0 ∷ []))) n 0) e ∙ getD-append-add a _ i 0
-
-  pub row-flag : (j : ℕ) → j ≡ flagByte → getD (x ∷ y ∷ z ∷ (a ++ (f ∷ 0 ∷ 0 ∷ []))) j 0 ≡ f
-  row-flag j h = rw h (row-behind 0)
-
-  pub row-rest : (j : ℕ) → flagByte < j → getD (x ∷ y ∷ z ∷ (a ++ (f ∷ 0 ∷ 0 ∷ []))) j 0 ≡ 0
-  row-rest j h =
-      let e : j ≡ flagByte + suc (j - (flagByte + 1)) = omega arith in
-      rw e (row-behind (suc (j - (flagByte + 1))) ∙ zeros-at 2 (j - (flagByte + 1)))
-
-pub length-bytes : (r : Row) → length (r .out .acts .a) ≡ mostActions → length (rowBytes r) ≡ rowSize
-unfolding rowBytes
-length-bytes r h = simp (length-append, h)
-
--- Writing a list over another from its start, one element more.
-pub write-more : (v p : List ℕ) (j : ℕ) → j < length v → j < length p → set (take j v ++ drop j p) j (getD v j 0) ≡ take (j + 1) v ++ drop (j + 1) p
-write-more v p j h g =
-    rw (add-one j, drop-cons p j 0 g, take-suc v j 0 h)
-    (set-at (take j v) _ _ _ j (length-take-le j v (le-of-lt h)) ∙ sym (append-assoc (take j v) _ _))
-
-pub write-done : (v p : List ℕ) (j : ℕ) → length v ≡ rowSize → j ≤ rowSize → rowSize ≤ j → take j v ++ drop j p ≡ v ++ drop rowSize p
-write-done v p j l h g =
-    let e : j ≡ rowSize = omega arith in
-    rw (e, take-all rowSize v (omega arith))
 
 -- ## The code's row of an answer is the answer's row
 -- the list l as the code holds it

@@ -10,6 +10,7 @@ ghost use Rattle.chart.specs.Numbers.{Guarded, Plain, each, firstSignal,
 ghost use Rattle.chart.specs.Step.{rowDoes};
 use super::read::*;
 use super::step::*;
+use ground::copy;
 use numbers::ACTIONS_IN_ROW;
 use numbers::FLAG_IN_ROW;
 use numbers::ROW_BYTES;
@@ -238,29 +239,20 @@ fn row_no(e: Edition, chart: &[u8], index: &[u16; ROWS], n: usize, k: usize) -> 
     still(0)
 }
 
-// Byte j of a row.
-fn row_byte(r: Row, j: usize) -> u8
-    ensures { λ b. ⌜ b ≡ getD (rowBytes r) j 0 ⌝ }
+// The bytes of a row.
+fn bytes_of(r: Row) -> [u8; ROW_BYTES]
+    ensures { λ b. ⌜ b ≡ rowBytes r ⌝ }
 {
     let out = r.out;
-    if j == 0 {
-        return out.next;
-    }
-    if j == 1 {
-        return out.outcome;
-    }
     let acts = out.acts;
-    if j == 2 {
-        return acts.n;
-    }
-    if j == FLAG_IN_ROW {
-        return r.flag;
-    }
-    if FLAG_IN_ROW < j {
-        return 0;
-    }
-    let i = j - ACTIONS_IN_ROW;
-    acts.a[i]
+    let actions = acts.a;
+    let mut bytes = [0u8; ROW_BYTES];
+    bytes[0] = out.next;
+    bytes[1] = out.outcome;
+    bytes[2] = acts.n;
+    bytes[FLAG_IN_ROW] = r.flag;
+    copy(&mut bytes[ACTIONS_IN_ROW..FLAG_IN_ROW], &actions);
+    bytes
 }
 
 // A row, at the start of the part.
@@ -268,11 +260,7 @@ fn write_row(part: &mut [u8], r: Row)
     requires { ⌜ rowSize ≤ length (now part) ⌝ }
     ensures { λ _. ⌜ now (part .exit) ≡ rowBytes r ++ drop rowSize (now (part .entry)) ⌝ }
 {
-    let mut j: usize = 0;
-    while j < ROW_BYTES {
-        part[j] = row_byte(r, j);
-        j += 1;
-    }
+    copy(&mut part[..ROW_BYTES], &bytes_of(r));
 }
 
 // The slot of a good chart, row by row.
