@@ -27,7 +27,7 @@ use Rattle.story.specs.Terms.{nextCall, steps, logLine, says, signalTake
 use Rattle.story.specs.Terms.{side, Defers, Recalls, FindsNone, Flushes, Lives}
 use Rattle.story.specs.Terms.{count, mark, Smallest}
 use Rattle.story.specs.Terms.{GoesOn, Names}
-use Rattle.story.specs.Terms.{isUp, Flags}
+use Rattle.story.specs.Terms.{isUp, SetsFlag}
 
 -- ## Demand 1
 -- "Any command record, chart and lent area, in any order of calls from a fresh start, gets an answer and never a trap."
@@ -161,7 +161,7 @@ StaysRetired = (h : Story) (c : Call) (b : ℕ) → isRetired (cell h b) ≡ tru
 -- ## Document 02, request 8, "charts with conditions"
 -- "FLAG p, flag, 0 or 1 clears or sets one flag, value 1 if it changed", and does nothing else.
 abbrev pub Flagged : Type 0
-Flagged = (h : Story) (c : Call) → Did FLAG h c → Flags h c (argument c 1) (argument c 2) (eqb (argument c 3) 1)
+Flagged = (h : Story) (c : Call) → Did FLAG h c → SetsFlag h c (argument c 1) (argument c 2) (eqb (argument c 3) 1)
 
 -- "All flags are down at START."
 abbrev pub StartsDown : Type 0

@@ -251,7 +251,7 @@ pub record Lives (h : Story) (e : ℕ) : Type 0 where
   pub live : isLive (cell h block) ≡ true
 
 -- A call sets flag f of object p to v, and changes nothing else: no other flag, and nothing but flags.
-pub record Flags (h : Story) (c : Call) (p f : ℕ) (v : Bool) : Type 0 where
+pub record SetsFlag (h : Story) (c : Call) (p f : ℕ) (v : Bool) : Type 0 where
   pub this : isUp (then h c) p f ≡ v
   pub others : (q g : ℕ) → (q ≡ p → g ≡ f → ⊥) → isUp (then h c) q g ≡ isUp h q g
   pub rest : kernel (then h c) ≡ withFlags (kernel (then h c) .flags) (kernel h)
