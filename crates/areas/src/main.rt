@@ -1,5 +1,6 @@
 // Calls the kernel with areas of any length, and with tables that others write to: what no replay shows.
 // Its input and what it writes are those of `calls`.
+#![tactic(auto)]
 
 ghost use Rattle.state.specs.View.{Good};
 
@@ -137,7 +138,7 @@ fn make(
 }
 
 // The kernel that a turn leaves, and whether another turn may come.
-#[derive(Drop)]
+#[derive(Clone, Copy)]
 struct Run {
     kernel: Kernel,
     goes_on: bool,

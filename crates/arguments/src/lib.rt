@@ -1,4 +1,6 @@
 // What a record's bytes are: its arguments, and whether a byte that a command does not use is not 0.
+#![tactic(auto)]
+
 ghost use Rattle.std.specs.Prelude.{◌≡◌, ◌<◌, ◌≤◌, get_or};
 ghost use Rattle.machine.specs.Machine as machine;
 

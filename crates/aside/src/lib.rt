@@ -1,4 +1,6 @@
 // Side queues: the event in hand is set aside, an entry is recalled to a mailbox, all of them are let go.
+#![tactic(auto)]
+
 pub mod records;
 
 ghost use Rattle.std.specs.Prelude.{◌≡◌, ◌-◌, ◌<◌, ◌≤◌, get_or, length, take};

@@ -1,4 +1,6 @@
 // Sets of the numbers below 64, each in one word: i is in the set `members w` where digit i of w is 1. No operation has a loop.
+#![tactic(auto)]
+
 ghost use Rattle.std.specs.Prelude.{true, false, ◌≡◌, ◌-◌, ◌<◌, ◌≤◌};
 ghost use Rattle.bits.specs.Inside.{moved_up};
 ghost use Rattle.bits.specs.Members.{members, put, last_below, width};

@@ -13,6 +13,7 @@
 //
 // The line of a call has the reply without the zeros at its end; then, as the call leaves them, the sum of each area
 // over all its bytes; then the length and the sum of the part that READ hands back.
+#![tactic(auto)]
 
 use input::{low_byte_first, read_exactly};
 use numbers::REPLY_BYTES;
@@ -35,7 +36,7 @@ pub const TO_TABLES: u8 = 1;
 pub const TO_GUARDED: u8 = 2;
 
 // What a call asks for, if there is one. Its numbers are lengths, but for what a poke writes and where.
-#[derive(Drop)]
+#[derive(Clone, Copy)]
 pub struct Head {
     pub is_there: bool,
     pub is_fresh: bool,

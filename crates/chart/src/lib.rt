@@ -1,4 +1,6 @@
 // Charts: reading one, what it does, its flat table, and the reading of that table's rows.
+#![tactic(auto)]
+
 pub mod read;
 mod step;
 pub mod table;
@@ -136,7 +138,7 @@ fn is_open(flags: &[u64; FLAGS], p: usize, f: u8) -> bool
 }
 
 // What reading the rows for a state and signal tells: the place of the row that is taken, ignored, or a row that may not be read.
-#[derive(Drop)]
+#[derive(Clone, Copy)]
 pub enum Reading {
     Taken(usize),
     Ignored,

@@ -4,7 +4,7 @@ ghost use Rattle.chart.specs.Chart.{among, byte, has, is_signal, outward, parent
 ghost use Rattle.chart.specs.Numbers.{Plain, most_flag, most_states, row_filler};
 
 // The two editions of charts: the plain ones, and those whose rows may name a flag.
-#[derive(Drop)]
+#[derive(Clone, Copy)]
 pub enum Edition {
     Plain,
     Guarded,

@@ -22,7 +22,7 @@ const GUARDED_STATE_ROWS: usize = SIGNALS * GUARDED_ROWS;
 const ROWS: usize = MOST_STATES * SIGNALS;
 
 // A row of the table: its flag, and what it does.
-#[derive(Drop)]
+#[derive(Clone, Copy)]
 pub struct Row {
     pub flag: u8,
     pub out: Out,

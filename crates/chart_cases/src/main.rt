@@ -2,6 +2,7 @@
 //
 // A case is a byte (1: write the table's rows, 2: the chart is a guarded one, 3: both), the chart's length in two bytes, low byte first,
 // and the chart.
+#![tactic(auto)]
 
 ghost use Rattle.std.specs.Prelude.{◌≤◌, length};
 
@@ -20,7 +21,7 @@ const GUARDED_CASE: u8 = 2;
 const FILL: u8 = 170;
 
 // Whether a case was there, whether its rows are to be written, its edition, and how long its chart is.
-#[derive(Drop)]
+#[derive(Clone, Copy)]
 struct Case {
     there: bool,
     rows: bool,

@@ -1,4 +1,6 @@
 // LOAD and START, which use the tables, and FLAG.
+#![tactic(auto)]
+
 mod flags;
 pub mod records;
 

@@ -1,4 +1,6 @@
 // Timers.
+#![tactic(auto)]
+
 pub mod records;
 
 ghost use Rattle.std.specs.Prelude.{◌≡◌, ◌<◌, get_or, length};

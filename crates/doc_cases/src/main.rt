@@ -9,6 +9,8 @@
 //     LOAD 0 = 0 0 0 0 1
 // FRESH begins a trace, with a fresh kernel, areas of zeros and no chart. Remarks and empty lines are written as they are.
 // So the program has to write what it reads: stdout is a copy of stdin.
+#![tactic(auto)]
+
 ghost use Rattle.io.specs.Counts.{IsPrefixLen};
 ghost use Rattle.state.specs.View.{Good};
 
@@ -22,7 +24,7 @@ const CHART_ROOM: usize = numbers::LONGEST_CHART + 1;
 
 // A trace in play: its kernel, how many bytes of a chart are written, whether the trace goes on, and whether it ended
 // with the beginning of another.
-#[derive(Drop)]
+#[derive(Clone, Copy)]
 struct Run {
     kernel: Kernel,
     written: usize,

@@ -1,5 +1,7 @@
 // Steps: what NEXT reads of the event that comes, and DRAIN's steps over arrays that the kernel lends. The steps leave the blocks alone:
 // they note how often each is let go, and the kernel then lets go of all of them.
+#![tactic(auto)]
+
 mod guarded_slot;
 mod plain_slot;
 
@@ -36,7 +38,7 @@ const STOPPED: u8 = 2;
 const NO_BLOCK: u8 = 255;
 
 // An event that comes: its signal, and its handle, the first byte and the generation.
-#[derive(Drop)]
+#[derive(Clone, Copy)]
 pub struct Coming {
     pub signal: u8,
     pub first: u8,

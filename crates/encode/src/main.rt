@@ -1,5 +1,6 @@
 // Turns the records in words of standard input, as the crate `words` reads them, into their bytes.
 // A line that cannot be read is told on standard error, and nothing behind it is written.
+#![tactic(auto)]
 
 fn complain(line: u64) {
     io::write_all(libc::STDERR_FILENO, b"line ");

@@ -1,4 +1,6 @@
 // Events: what is posted, published, held, released and dropped.
+#![tactic(auto)]
+
 pub mod records;
 
 ghost use Rattle.std.specs.Prelude.{false, ◌≡◌, ℕ, ◌-◌, ◌<◌, ◌≤◌, get_or, set};

@@ -1,4 +1,6 @@
 // Frames in the manner of QS, by which a trace can still be read after damage: a writer and a reader, and what both need.
+#![tactic(auto)]
+
 pub mod reader;
 pub mod writer;
 

@@ -19,7 +19,7 @@ const SPOILT: u8 = MOST_BYTES as u8 + 1;
 
 // What has come since the last FLAG: the first `length` of a reader's bytes, and whether ESCAPE came behind them. With a length above
 // MOST_BYTES it can be no frame any more.
-#[derive(Drop)]
+#[derive(Clone, Copy)]
 struct Part {
     length: u8,
     escaped: bool,
@@ -27,7 +27,7 @@ struct Part {
 
 // Between two frames `bytes` still holds the last one. What is yes or no is a byte, 0 for no, so that any memory is a reader.
 #[repr(C)]
-#[derive(Drop)]
+#[derive(Clone, Copy)]
 pub struct Reader {
     pub bytes: [u8; MOST_BYTES],
     length: u8,
@@ -38,7 +38,7 @@ pub struct Reader {
 
 // How many bytes of a piece were read, and whether the last of them completed a frame. Its data are then `size` bytes of the reader's,
 // from DATA on.
-#[derive(Drop)]
+#[derive(Clone, Copy)]
 pub struct Fed {
     pub reader: Reader,
     pub read: usize,

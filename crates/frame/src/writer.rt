@@ -8,7 +8,7 @@ use super::*;
 use std::num::wrapping_add_u8;
 
 // Whether a frame was written, how many bytes it has, and the number of the next.
-#[derive(Drop)]
+#[derive(Clone, Copy)]
 pub struct Written {
     pub done: bool,
     pub length: usize,

@@ -4,6 +4,8 @@
 //     w    the frame's number, its record number, the area's room in two bytes, the data's size in two bytes, the data
 //     r    the stream's length in two bytes, the stream
 // What is written of each stands in `writing` and in `reading`.
+#![tactic(auto)]
+
 mod reading;
 mod report;
 mod writing;

@@ -11,7 +11,7 @@ use frame::reader::Reader;
 use std::num::wrapping_add_u64;
 
 // How far a reader has come: how many bytes of a piece it has read, and how many its report has.
-#[derive(Drop)]
+#[derive(Clone, Copy)]
 struct Progress {
     reader: Reader,
     at: usize,

@@ -1,4 +1,6 @@
 // What several layers need of bytes, once.
+#![tactic(auto)]
+
 ghost use Rattle.std.specs.Prelude.{cond, ◌≡◌, ◌+◌, ◌<◌, ◌≤◌, min, get_or, length};
 ghost use Rattle.ground.specs.Bytes.{padded};
 ghost use Rattle.ground.specs.Bytes as bytes;

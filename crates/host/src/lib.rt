@@ -1,6 +1,8 @@
 // The kernel for a host in C or Rust, which keeps the struct and the areas as plain memory.
 //
 // The walk of a reference to a struct is proved by hand, so each exported function is one line over a function that takes the struct itself.
+#![tactic(auto)]
+
 pub mod frames;
 
 ghost use Rattle.std.specs.Prelude.{◌≡◌};

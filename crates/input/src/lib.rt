@@ -1,4 +1,5 @@
 // Bytes of standard input, for the programs that are run on cases.
+#![tactic(auto)]
 
 // Reads the next n bytes into the front of the buffer. It answers false if the buffer or the input is too short.
 pub fn read_exactly(buffer: &mut [u8], n: u16) -> bool {
@@ -11,7 +12,7 @@ pub fn low_byte_first(low: u8, high: u8) -> u16 {
 }
 
 // A byte of a text, or its end.
-#[derive(Drop)]
+#[derive(Clone, Copy)]
 pub enum Letter {
     Byte(u8),
     End,

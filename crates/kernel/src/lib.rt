@@ -1,4 +1,6 @@
 // The kernel: one operation for any record, chart and areas.
+#![tactic(auto)]
+
 ghost use Rattle.std.specs.Prelude.{◌≡◌, ◌+◌, ◌≤◌, length};
 ghost use Rattle.state.specs.View.{answered, areas, Good, state_of, told};
 ghost use Rattle.machine.specs.Machine.{answer_to, part_at, part_of};

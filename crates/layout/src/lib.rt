@@ -1,4 +1,6 @@
 // What is written to the areas that are lent: a payload at the place of its block, the table of a chart in its slot.
+#![tactic(auto)]
+
 ghost use Rattle.std.specs.Prelude.{◌≡◌, ◌<◌, ◌≤◌, length};
 ghost use Rattle.chart.specs.Chart.{class_of};
 ghost use Rattle.chart.specs.Flat.{slot_bytes};

@@ -1,1 +1,2 @@
 // The machine that the kernel is proved to be: definitions and laws, no code.
+#![tactic(auto)]

@@ -1,6 +1,8 @@
 // The mailboxes: for each object, of any number of them, a ring of 16 places, all in one array. Objects are counted from 0 here. The side
 // queues are such rings too. What stands above relies on the promises alone, which speak of `boxes places heads counts`, the lists of
 // entries that the three arrays hold.
+#![tactic(auto)]
+
 ghost use Rattle.std.specs.Prelude.{List, ◌≡◌, ℕ, ◌+◌, ◌*◌, ◌-◌, ◌^◌, ◌<◌, ◌≤◌, get_or, length, set};
 ghost use Rattle.mail.specs.Box.{box_at, emptied, front, highest, push_back, push_front, room, took_first, took_front};
 ghost use Rattle.mail.specs.Entry.{entry_of, hand_of};
@@ -20,7 +22,7 @@ const SIGNALS: u16 = SIGNAL_PLACES as u16;
 const BYTES: u16 = 256;
 
 // What an entry stands for: a block, or a timer with its signal.
-#[derive(Drop)]
+#[derive(Clone, Copy)]
 pub enum Hand {
     Nothing,
     Block(u8),

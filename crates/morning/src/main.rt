@@ -5,6 +5,8 @@
 //      16 command 22   no reply, data: 7 8       where no command has the record number, or the data are no reply
 //     the end is torn off                        where the input does not end with a frame's end
 //     frames: 2, gaps: 1                         last
+#![tactic(auto)]
+
 ghost use Rattle.std.specs.Prelude.{◌<◌, ◌≤◌, length};
 ghost use Rattle.frame.specs.Wire.{most_data};
 
@@ -16,7 +18,7 @@ use text::{Line, with_bytes, with_named};
 
 // A night as far as it was read: how many bytes of the last piece, how many frames and gaps, whether it stops within a
 // frame, and whether it is over.
-#[derive(Drop)]
+#[derive(Clone, Copy)]
 struct Night {
     reader: Reader,
     at: usize,

@@ -1,4 +1,6 @@
 // The names of the commands, each once: from a name to its number, and back.
+#![tactic(auto)]
+
 use check::same;
 use numbers::command;
 use text::{Line, with_bytes};

@@ -1,5 +1,7 @@
 // The numbers of documents 01 and 02 that several crates use, each once. Their like in the definitions stands in the files `Numbers` of
 // `machine` and `chart`, in `mail`'s `Box` and in `pool`'s `Row`.
+#![tactic(auto)]
+
 pub mod answer;
 pub mod command;
 

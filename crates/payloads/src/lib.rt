@@ -1,4 +1,6 @@
 // NEW and READ, which use the payload area.
+#![tactic(auto)]
+
 pub mod records;
 
 ghost use Rattle.std.specs.Prelude.{List, ◌≡◌, ℕ, ◌+◌, ◌<◌, ◌≤◌, get_or, length};
@@ -21,7 +23,7 @@ use refusals::{new_refusal, read_refusal};
 use state::{Answered, Kernel, refuse};
 
 // Where a part of the payload area begins, and how long it is.
-#[derive(Drop)]
+#[derive(Clone, Copy)]
 pub struct Part {
     pub place: usize,
     pub length: usize,

@@ -1,4 +1,6 @@
 // Plays a trace: takes it in piece by piece, finds the chart of a LOAD in its file, and has the kernel answer.
+#![tactic(auto)]
+
 ghost use Rattle.std.specs.Prelude.{◌<◌, ◌≤◌};
 ghost use Rattle.io.specs.Counts.{IsPrefixLen};
 ghost use Rattle.machine.specs.Numbers.{record_bytes, slots};
@@ -86,7 +88,7 @@ pub fn answer(
 }
 
 // A piece of the trace: the first n bytes, a record of them unless the trace ends before. None at its end.
-#[derive(Drop)]
+#[derive(Clone, Copy)]
 struct Piece {
     n: usize,
     bytes: [u8; RECORD_BYTES],
@@ -114,14 +116,14 @@ fn read_piece(left: u64) -> Piece
 }
 
 // How replies are written: as they are, or each as a frame, numbered on from 0.
-#[derive(Drop)]
+#[derive(Clone, Copy)]
 pub enum Replies {
     Plain,
     Framed,
 }
 
 // Whether a reply could be written, and the number of the next frame.
-#[derive(Drop)]
+#[derive(Clone, Copy)]
 struct Sent {
     done: bool,
     next: u8,
@@ -159,7 +161,7 @@ fn write_reply(replies: Replies, number: u8, command: u8, reply: [u8; REPLY_BYTE
 }
 
 // A trace in play: its kernel, how many bytes of it may be left, 0 once it has ended, and the number of the next frame.
-#[derive(Drop)]
+#[derive(Clone, Copy)]
 struct Run {
     kernel: Kernel,
     left: u64,

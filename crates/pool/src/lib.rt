@@ -1,6 +1,8 @@
 // The block pool: 56 blocks in three pools, each with a generation and a count of references, the set of those that are free, and the
 // mark of each pool, its least number of free blocks so far. What stands above relies on the promises alone, which speak of `cells p`,
 // the row of blocks that a pool stands for, and of `marks p`.
+#![tactic(auto)]
+
 ghost use Rattle.std.specs.Prelude.{Bool, false, ◌≡◌, ℕ, ◌-◌, ◌<◌, ◌≤◌, min};
 ghost use Rattle.bits.specs.Members.{members, width};
 ghost use Rattle.ground.specs.Range.{count_from, tab};
@@ -34,7 +36,7 @@ const SIZES: [u8; POOLS] = [MIDDLE as u8, (LARGE - MIDDLE) as u8, (BLOCKS - LARG
 
 // The set alone says which blocks are free; the count of a free block says nothing.
 #[repr(C)]
-#[derive(Drop)]
+#[derive(Clone, Copy)]
 pub struct Pool {
     free: u64,
     gens: [u32; BLOCKS],
@@ -43,27 +45,27 @@ pub struct Pool {
 }
 
 // A pool by its number: the blocks from `from` up to, not including, `to`.
-#[derive(Drop)]
+#[derive(Clone, Copy)]
 pub struct Span {
     pub number: usize,
     pub from: usize,
     pub to: usize,
 }
 
-#[derive(Drop)]
+#[derive(Clone, Copy)]
 pub enum Found {
     At(usize),
     Nothing,
 }
 
-#[derive(Drop)]
+#[derive(Clone, Copy)]
 pub struct Taken {
     pub pool: Pool,
     pub found: Found,
     pub mark: u8,
 }
 
-#[derive(Drop)]
+#[derive(Clone, Copy)]
 pub struct Gone {
     pub pool: Pool,
     pub freed: bool,

@@ -1,5 +1,7 @@
 // PUBLISH over arrays that the kernel lends: who receives an event, whether one of these has no place, and the posts.
 // Each goes through the objects from the highest down.
+#![tactic(auto)]
+
 ghost use Rattle.std.specs.Prelude.{cond, false, true, ◌≡◌, ℕ, ◌-◌, ◌<◌, ◌≤◌, eqb, get_or};
 ghost use Rattle.machine.specs.Events.{full_receiver, published, receivers};
 ghost use Rattle.machine.specs.Numbers.{blocks, objects};

@@ -1,4 +1,6 @@
 // Plays a trace as `replay` does, and writes each reply as a frame: a record of the night that `morning` can read after damage.
+#![tactic(auto)]
+
 use player::Replies;
 
 fn main() {

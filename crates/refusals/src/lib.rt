@@ -1,5 +1,7 @@
 // The tests of each command: the lowest number that applies, 0 where none does. They stand in descending number, so that the last word
 // has the lowest that holds. `spoilt`: an unused byte is not 0.
+#![tactic(auto)]
+
 ghost use Rattle.std.specs.Prelude.{◌&&◌, cond, not, [], ◌∷◌, ◌≡◌, eqb, leb};
 ghost use Rattle.machine.specs.Numbers as ranges;
 ghost use Rattle.machine.specs.Numbers.{most_aside, no_block, no_depth, no_flag, no_margin, no_object, no_side, no_signal, no_size, no_slot, no_timer, no_value};

@@ -8,6 +8,8 @@
 //     class 2                           CHART: the class of the fault
 //     count 4  actions 26 22 31 41      the count and the actions; for READ bytes of the payload
 // What the kernel never writes is told too: `unknown answer 16`, a number above 15; `handle 1 2`, where no event is told.
+#![tactic(auto)]
+
 use numbers::{HANDLE, REPLY_BYTES, answer};
 use text::{Line, wide, with_bytes};
 
@@ -20,7 +22,7 @@ const COUNTED: usize = 6;
 const GENERATION: usize = HANDLE + 1;
 
 // The last bytes of a reply: the first of them, and the three of the generation as a number.
-#[derive(Drop)]
+#[derive(Clone, Copy)]
 struct Handle {
     block: u8,
     generation: u64,

@@ -1,4 +1,6 @@
 // The 28 bytes of every reply.
+#![tactic(auto)]
+
 ghost use Rattle.std.specs.Prelude.{◌++◌, ◌≡◌, ℕ, ◌≤◌, ◌<◌, length, get_or, take};
 ghost use Rattle.chart.specs.Flat.{answer_of, flag_at, row_of};
 ghost use Rattle.chart.specs.Numbers.{row_size};

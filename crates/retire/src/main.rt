@@ -1,5 +1,7 @@
 // Takes a block and frees it, by the pool's operations alone, until it is handed out no more: it has then had every generation
 // once, and is retired. Tells what has become of it, and what is left of its pool.
+#![tactic(auto)]
+
 use numbers::{BLOCKS, LARGE, LARGE_BYTES};
 use pool::{Found, Pool};
 use std::num::wrapping_add_u64;
@@ -9,7 +11,7 @@ use text::{with_bytes, with_named};
 const BLOCK: usize = LARGE;
 
 // The pool, how often the block was handed out and freed, and whether that is over.
-#[derive(Drop)]
+#[derive(Clone, Copy)]
 struct Life {
     pool: Pool,
     times: u64,

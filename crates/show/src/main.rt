@@ -1,5 +1,7 @@
 // Writes a line for each reply record of standard input: the reply in words, as `replies` has it. A last piece that is shorter
 // than a reply is told as such.
+#![tactic(auto)]
+
 use numbers::REPLY_BYTES;
 use text::Line;
 

@@ -1,4 +1,6 @@
 // The slots: which edition of charts each takes, where its table stands in what is lent, and the table's start row.
+#![tactic(auto)]
+
 ghost use Rattle.std.specs.Prelude.{not, ◌&&◌, ◌≡◌, eqb, length};
 ghost use Rattle.machine.specs.Charts.{slot_table, start_row};
 ghost use Rattle.machine.specs.Numbers.{edition_of, guarded_bytes, guarded_slot};

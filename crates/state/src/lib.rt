@@ -1,4 +1,6 @@
 // The kernel's state in one struct, a fresh start, and what every command says when it refuses.
+#![tactic(auto)]
+
 ghost use Rattle.std.specs.Prelude.{◌≡◌};
 ghost use Rattle.machine.specs.Reply.{no, reply_of};
 ghost use Rattle.machine.specs.State.{fresh_state, is_open};
@@ -16,7 +18,7 @@ pub const NO_EVENT: u16 = 0;
 
 // What steps change stands last and all else before it, so that the compiler copies that in one piece.
 #[repr(C)]
-#[derive(Drop)]
+#[derive(Clone, Copy)]
 pub struct Kernel {
     pub places: [u16; ALL_PLACES],
     pub side_places: [u16; ALL_SIDE_PLACES],
@@ -41,7 +43,7 @@ pub struct Kernel {
     pub rests: [u8; OBJECTS],
 }
 
-#[derive(Drop)]
+#[derive(Clone, Copy)]
 pub struct Answered {
     pub kernel: Kernel,
     pub reply: [u8; REPLY_BYTES],

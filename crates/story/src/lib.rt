@@ -1,1 +1,2 @@
 // Any sequence of calls from a fresh start: definitions and theorems, no code.
+#![tactic(auto)]

@@ -1,4 +1,6 @@
 // Subscriptions.
+#![tactic(auto)]
+
 pub mod records;
 
 ghost use Rattle.std.specs.Prelude.{cond, not, ◌≡◌, ◌≤◌};

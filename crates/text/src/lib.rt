@@ -1,4 +1,6 @@
 // A line of text, put together piece by piece and written by one call.
+#![tactic(auto)]
+
 ghost use Rattle.std.specs.Prelude.{◌≤◌};
 ghost use Rattle.io.specs.Counts.{IsPrefixLen};
 
@@ -9,7 +11,7 @@ const LINE_BYTES: usize = 256;
 
 // The first n bytes of text are yet to be written. A full line is written out and goes on empty, so that a line of any
 // length is whole; only, no two lines may be in the making at once.
-#[derive(Drop)]
+#[derive(Clone, Copy)]
 pub struct Line {
     n: u8,
     text: [u8; LINE_BYTES],

@@ -1,4 +1,6 @@
 // TICK over arrays that the kernel lends: the turn of each timer.
+#![tactic(auto)]
+
 ghost use Rattle.std.specs.Prelude.{◌≡◌, ◌+◌, ◌-◌, ◌<◌, ◌≤◌, get_or};
 ghost use Rattle.machine.specs.Clocks.{ticked, tick_all, tick_timer};
 ghost use Rattle.machine.specs.Numbers.{objects, timers};
@@ -14,7 +16,7 @@ use mail::{Hand, of_object, room_of};
 use numbers::{ALL_PLACES, OBJECTS, TIMERS};
 
 // How many timers have fired in a TICK, and how many were late.
-#[derive(Drop)]
+#[derive(Clone, Copy)]
 pub struct Ticks {
     pub fired: u8,
     pub late: u8,

@@ -1,6 +1,8 @@
 // Plays the random traces of standard input, which the model made with the replies that are to be written.
 //
 // A trace is the letter of its folder of charts, its length in two bytes, low byte first, and its bytes.
+#![tactic(auto)]
+
 use player::Replies;
 
 // Plays the next trace, and answers whether there was one.

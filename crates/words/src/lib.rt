@@ -10,6 +10,8 @@
 //     23 1 2                                  a number for a name: a command record of just these bytes, then 0
 //     PIECE 16 0                              as many bytes as are given
 //     FRESH                                   no record, but a mark: here a trace begins
+#![tactic(auto)]
+
 use check::same;
 use input::Letter;
 use names::COLUMNS;
@@ -42,7 +44,7 @@ const PIECE: u8 = 203;
 pub const FRESH: u8 = 204;
 
 // A name or a number, as far as it was read: its first letters, as many as tell names apart, and spaces behind them.
-#[derive(Drop)]
+#[derive(Clone, Copy)]
 struct Word {
     letters: u8,
     text: [u8; COLUMNS],
@@ -51,7 +53,7 @@ struct Word {
 }
 
 // A record, as far as it was read: its first `size` bytes, and the place where the next number goes.
-#[derive(Drop)]
+#[derive(Clone, Copy)]
 pub struct Record {
     pub size: u8,
     pub bytes: [u8; RECORD_BYTES],
@@ -61,7 +63,7 @@ pub struct Record {
 }
 
 // A line, as far as it was read: its text up to `=`, if that is kept, and the record that it gives.
-#[derive(Drop)]
+#[derive(Clone, Copy)]
 pub struct Reading {
     pub is_there: bool,
     pub text: Line,

@@ -1,0 +1,6 @@
+use borrow.Author.Rules.{rules}
+use Rattle.bits.proofs.Digits.{with_is}
+use Rattle.bits.proofs.with.Goals as goal
+
+pub returns : goal.returns
+returns c = with_is _ _ c.requires

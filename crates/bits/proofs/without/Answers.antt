@@ -1,0 +1,6 @@
+use borrow.Author.Rules.{rules}
+use Rattle.bits.proofs.Digits.{without_is}
+use Rattle.bits.proofs.without.Goals as goal
+
+pub returns : goal.returns
+returns c = without_is _ _ c.requires

@@ -1,0 +1,34 @@
+use borrow.Author.Rules.{rules}
+use borrow.Author.Tests.{eq-eqb, ne_eqb}
+use mathlib.Core.Bool.{not}
+use mathlib.Core.Path.{◌≡◌, refl, sym, ap, ◌∙◌}
+use Prim.Native.Nat.{◌≤◌, ◌-◌, ◌/◌}
+use lib.ListN.{length}
+use Rattle.ground.specs.Range.{first_from}
+use Rattle.ground.specs.Search.{first_end, first_hit, first_miss}
+use Rattle.chart.specs.Chart.{states}
+use Rattle.chart.specs.Held.{not_state}
+use Rattle.chart.proofs.read.state_count.Goals as goal
+
+pub loop-i-init : goal.loop-i-init
+unfolding states
+loop-i-init c = (search rules, refl)
+
+pub returns-then-field-ne1 : goal.returns-then-field-ne1
+returns-then-field-ne1 c =
+    let d = c.args.chart.now in
+    let i = c.loop-i.i in
+    let other = ap not (ne_eqb _ _ (λ q. c.if-field-ne1.true (c.field.ensures ∙ q))) in
+    ap (λ m. m - 1) (sym (first_hit (not_state d) i (length d / 8) (search rules) other)) ∙ c.loop-i.invariant.1
+
+pub loop-i-preserved : goal.loop-i-preserved
+loop-i-preserved c =
+    let d = c.args.chart.now in
+    let i = c.loop-i.i in
+    let one = ap not (eq-eqb _ _ (sym c.field.ensures ∙ c.if-field-ne1.false)) in
+    (search rules, ap (λ m. m - 1) (sym (first_miss (not_state d) i (length d / 8) (search rules) one)) ∙ c.loop-i.invariant.1)
+
+pub returns : goal.returns
+returns c =
+    let d = c.args.chart.now in
+    ap (λ m. m - 1) (sym (first_end (not_state d) c.loop-i.i (length d / 8) (search rules))) ∙ c.loop-i.invariant.1

@@ -1,0 +1,57 @@
+use borrow.Author.Rules.{rules}
+use borrow.Rule.Slice.PartMut.{same_len_mid}
+use mathlib.Core.List.{◌++◌}
+use mathlib.Core.Path.{◌≡◌, sym, ap, ◌∙◌}
+use Prim.Native.Nat.{◌≤◌, ◌-◌, ◌+◌, ◌*◌}
+use native.Mathlib.Omega.{arith}
+use lib.ListN.{length, drop}
+use Rattle.chart.specs.Held.{row_bytes}
+use Rattle.chart.specs.Numbers.{Guarded, row_count, row_size}
+use Rattle.chart.specs.Step.{start}
+use Rattle.chart.proofs.Accepted.{accepted, size_of, start_good}
+use Rattle.chart.proofs.Rows.{rows_to, row_same, first_row, row-turn, rows_done}
+use Rattle.chart.proofs.table.fill_table.Goals as goal
+
+pub index_rows-index-requires : goal.index_rows-index-requires
+index_rows-index-requires c = let from = c in size_of from.args.chart.now (accepted from.args.e _ from.requires.0).fits
+
+pub write_row-requires : goal.write_row-requires
+write_row-requires c = omega (arith, c.requires.1, c.rows_in-rows.ensures.2)
+
+pub loop-k-init : goal.loop-k-init
+loop-k-init c =
+    let from = c in
+    let d = from.args.chart.now in
+    let w = c.write_row in
+    let r = c.rows_in-rows.ensures in
+    let first = ap (λ o. row_bytes (record { flag = 0; out = o })) c.start_of_lem.ensures ∙ row_same 0 (start d) (start_good d (accepted from.args.e d from.requires.0)).few in
+    (search rules, r.0, r.1, w.auto.0 ∙ from.requires.1 ∙ r.2, first_row from.args.e d w.new.0 (drop row_size from.args.table-1.now) (rw (← first) w.ensures))
+
+pub row_no-requires : goal.row_no-requires
+row_no-requires c =
+    let from = c in
+    (from.requires.0, c.index_rows-index.ensures, c.state_count-n.ensures, omega (arith, c.loop-k-test.true, c.loop-k.invariant.2))
+
+pub loop-k-preserved : goal.loop-k-preserved
+loop-k-preserved c =
+    let from = c.args in
+    let at = c.loop-k in
+    let k = at.k in
+    let w = c.write_row-in-loop-k in (
+      search rules,
+      at.invariant.1,
+      at.invariant.2,
+      same_len_mid (row_size * k + row_size) (length at.table-1 - (row_size * k + row_size)) at.table-1 w.new.0 w.auto.0 ∙ at.invariant.3,
+      rw w.ensures (row-turn from.e from.chart.now k c.write_row.new.0 at.table-1 _ c.row_no.ensures at.invariant.4),
+    )
+
+pub shape_of-table : goal.shape_of-table
+shape_of-table c = c.loop-k.invariant.3 ∙ sym (c.requires.1 ∙ c.rows_in-rows.ensures.2)
+
+pub returns : goal.returns
+returns c =
+    let from = c in
+    let at = c.loop-k in
+    let w = c.write_row in
+    let q : at.k ≡ c.rows_in-rows.result = omega (arith, at.invariant.0, c.loop-k-test.false) in
+    rows_done from.args.e from.args.chart.now at.k w.new.0 at.table-1 (q ∙ at.invariant.1) (w.auto.0 ∙ from.requires.1) at.invariant.4

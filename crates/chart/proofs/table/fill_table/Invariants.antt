@@ -1,0 +1,20 @@
+use borrow.Author.Rules.{rules}
+use borrow.Rule.Slice.PartMut.{same_len_mid}
+use mathlib.Core.List.{◌++◌}
+use mathlib.Core.Path.{◌≡◌, sym, ap, ◌∙◌}
+use Prim.Native.Nat.{◌≤◌, ◌-◌, ◌+◌, ◌*◌}
+use native.Mathlib.Omega.{arith}
+use lib.ListN.{length, drop}
+use Rattle.chart.specs.Held.{row_bytes}
+use Rattle.chart.specs.Numbers.{Guarded, row_count, row_size}
+use Rattle.chart.specs.Step.{start}
+use Rattle.chart.proofs.Accepted.{accepted, size_of, start_good}
+use Rattle.chart.proofs.Rows.{rows_to, row_same, first_row, row-turn, rows_done}
+use Rattle.chart.proofs.table.fill_table.Given as goal
+
+abbrev pub invariant-loop-k : goal.invariant-loop-k
+invariant-loop-k l =
+    (l.k ≤ l.rows) × (l.rows ≡ row_count l.e) × (l.rows ≤ row_count Guarded) × (length l.table ≡ row_size * l.rows + row_size) × (l.table ≡ rows_to l.e l.chart l.k ++ drop (row_size * l.k + row_size) l.initial.table)
+
+abbrev pub decreases-loop-k : goal.decreases-loop-k
+decreases-loop-k l = l.rows - l.k

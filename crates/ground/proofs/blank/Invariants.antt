@@ -1,0 +1,14 @@
+use borrow.Author.Rules.{rules}
+use mathlib.Core.Path.{◌≡◌, refl, sym, ◌∙◌}
+use native.Mathlib.Omega.{arith}
+use Prim.Native.Nat.{◌-◌}
+use Rattle.ground.specs.Bytes.{blank}
+use Rattle.ground.specs.Every.{every_done}
+use Rattle.ground.specs.Words.{begins_zero, begins_other, zero-at}
+use Rattle.ground.proofs.blank.Given as goal
+
+abbrev pub invariant-loop-j : goal.invariant-loop-j
+invariant-loop-j l = blank l.s l.j l.e ≡ blank l.s l.i l.e
+
+abbrev pub decreases-loop-j : goal.decreases-loop-j
+decreases-loop-j l = l.e - l.j

@@ -1,0 +1,10 @@
+use borrow.Author.Rules.{rules}
+use mathlib.Core.Path.{refl}
+use Rattle.mail.proofs.Store.{pushed_back}
+use Rattle.mail.proofs.push_back.Goals as goal
+
+pub returns : goal.returns
+returns c =
+    let start = c in
+    rw (c.place.ensures, c.wide-h.ensures.0, c.wide-n.ensures.0)
+    record { holds = pushed_back _ _ _ _ start.requires.q_in_bounds.0 start.requires.mail start.args.e start.requires.q_in_bounds.1; counts_after = refl }

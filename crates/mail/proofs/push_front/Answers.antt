@@ -1,0 +1,10 @@
+use borrow.Author.Rules.{rules}
+use mathlib.Core.Path.{refl}
+use Rattle.mail.proofs.Store.{pushed_front}
+use Rattle.mail.proofs.push_front.Goals as goal
+
+pub returns : goal.returns
+returns c =
+    let start = c in
+    rw (c.place.ensures, c.wide.ensures.0)
+    record { holds = pushed_front _ _ _ _ start.requires.q_in_bounds.0 start.requires.mail start.args.e start.requires.q_in_bounds.1; counts_after = refl }
