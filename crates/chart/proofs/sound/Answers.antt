@@ -1,3 +1,4 @@
+use mathlib.Core.Path.{◌∙◌, sym}
 use borrow.Author.Rules.{rules}
 use borrow.Author.Tests.{eq-eqb, ne_eqb, le-leb, lt-leb}
 use Rattle.ground.specs.Bools.{refused, passed}
@@ -14,7 +15,7 @@ returns-then-not-is_among c =
     simp (
       eq-eqb _ _ c.if-row-ne-ROW_BYTES.false,
       ← c.most_states.ensures.0,
-      refused c.is_among.ensures c.if-not-is_among.true,
+      sym c.is_among.ensures ∙ c.if-not-is_among.true,
     )
 
 pub returns-then-row-gt2 : goal.returns-then-row-gt2
@@ -23,7 +24,7 @@ returns-then-row-gt2 c =
     simp (
       eq-eqb _ _ c.if-row-ne-ROW_BYTES.false,
       ← c.most_states.ensures.0,
-      passed c.is_among.ensures c.if-not-is_among.false,
+      sym c.is_among.ensures ∙ c.if-not-is_among.false,
       lt-leb _ _ c.if-row-gt2.true,
     )
 
@@ -33,7 +34,7 @@ returns-then-count-gt-MOST_ACTIONS c =
     simp (
       eq-eqb _ _ c.if-row-ne-ROW_BYTES.false,
       ← c.most_states.ensures.0,
-      passed c.is_among.ensures c.if-not-is_among.false,
+      sym c.is_among.ensures ∙ c.if-not-is_among.false,
       le-leb _ _ c.if-row-gt2.false,
       ← c.wide-count.ensures.0,
       lt-leb _ _ c.if-count-gt-MOST_ACTIONS.true,
@@ -45,7 +46,7 @@ returns c =
     simp (
       eq-eqb _ _ c.if-row-ne-ROW_BYTES.false,
       ← c.most_states.ensures.0,
-      passed c.is_among.ensures c.if-not-is_among.false,
+      sym c.is_among.ensures ∙ c.if-not-is_among.false,
       le-leb _ _ c.if-row-gt2.false,
       ← c.wide-count.ensures.0,
       le-leb _ _ c.if-count-gt-MOST_ACTIONS.false,

@@ -1,17 +1,17 @@
 use borrow.Author.Rules.{rules}
 use borrow.Author.Tests.{le-leb, lt-leb}
-use mathlib.Core.Path.{◌∙◌}
+use mathlib.Core.Path.{sym, ◌∙◌}
 use Rattle.ground.specs.Bools.{refused, passed}
 use Rattle.chart.proofs.OneRow.{plain_from}
 use Rattle.chart.proofs.sound_from.Goals as goal
 
 pub returns-then-not-blank : goal.returns-then-not-blank
-returns-then-not-blank c = simp (refused c.blank.ensures c.if-not-blank.true)
+returns-then-not-blank c = simp (sym c.blank.ensures ∙ c.if-not-blank.true)
 
 pub returns-then-most_flag-row : goal.returns-then-most_flag-row
 returns-then-most_flag-row c =
     simp (
-      passed c.blank.ensures c.if-not-blank.false,
+      sym c.blank.ensures ∙ c.if-not-blank.false,
       ← c.most_flag.ensures,
       lt-leb _ _ c.if-most_flag-row.true,
     )
@@ -19,12 +19,12 @@ returns-then-most_flag-row c =
 pub returns-in-Plain : goal.returns-in-Plain
 returns-in-Plain c =
     let from = c in
-    rw c.enum_told-1.given.1 (c.blank_from.ensures ∙ plain_from from.args.row.now from.args.k from.requires.1)
+    rw c.in-Plain.is (c.blank_from.ensures ∙ plain_from from.args.row.now from.args.k from.requires.1)
 
 pub returns-else-most_flag-row : goal.returns-else-most_flag-row
 returns-else-most_flag-row c =
     simp (
-      passed c.blank.ensures c.if-not-blank.false,
+      sym c.blank.ensures ∙ c.if-not-blank.false,
       ← c.most_flag.ensures,
       le-leb _ _ c.if-most_flag-row.false,
     )

@@ -11,7 +11,7 @@ pub loop-i-preserved : goal.loop-i-preserved
 loop-i-preserved c =
     let l = c.loop-i in (
       omega (arith, c.loop-i-test.true),
-      c.wrapping_add_u8-t.ensures ∙ sum-turn _ l.i l.t (omega (arith, c.loop-i-test.true, c.requires)) l.invariant.1,
+      c.wrapping_add_u8-t.ensures.value ∙ sum-turn _ l.i l.t (omega (arith, c.loop-i-test.true, c.requires)) l.invariant.1,
     )
 
 pub returns : goal.returns

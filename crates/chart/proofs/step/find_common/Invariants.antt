@@ -10,6 +10,9 @@ use Rattle.chart.proofs.Walk.{first_of_top, first_of_found, first_of_more, first
 use Rattle.chart.specs.Numbers.{levels}
 use Rattle.chart.proofs.step.find_common.Given as goal
 
+abbrev above : List ℕ → ℕ → ℕ → Bool
+above d t x = has x (outward d t)
+
 abbrev pub invariant-loop-k : goal.invariant-loop-k
 invariant-loop-k l = (l.k ≤ levels) × (first_of (above l.chart l.t) (path (levels - l.k) l.chart l.x) ≡ common l.chart l.s l.t)
 

@@ -29,8 +29,8 @@ at t = and 2 find-holder-kinds.ps (is 2 find-holder-kinds.ps μ-find-holder t) f
 abbrev below : ℕ → In 2 find-holder-kinds.ps
 below t = and 2 find-holder-kinds.ps (falls 2 find-holder-kinds.ps ◌<◌ μ-find-holder t) find-holder.Pre
 
-pub +find-holder-spec : {M : Type 1} → statement M
-+find-holder-spec = close μ-find-holder λ t. find-holder-lts.spec (
+pub +find_holder_spec : {M : Type 1} → statement M
++find_holder_spec = close μ-find-holder λ t. find-holder-lts.spec (
   row-of-reads.Asked,
   row-of-reads.Learnt,
   parent-of-reads.Asked,
@@ -45,60 +45,60 @@ pub +find-holder-spec : {M : Type 1} → statement M
     -- k is 0
     (λ c.
     let from = c.before.before.args in
-    (sym (nth_none from.chart.now from.g from.i from.k from.s c.if1.true), search rules))
+    (sym (nth_none from.chart.now from.g from.i from.k from.s c.if-k-eq0.true), search rules))
     -- the top
     (λ c.
     let from = c.before.before.before.args in
-    (sym (nth_top from.chart.now from.g from.i from.k from.s c.if2.true), search rules))
+    (sym (nth_top from.chart.now from.g from.i from.k from.s c.if-s-eq0.true), search rules))
     (λ c κs. ready_asks c.before.before.before.requires.1)
     -- no row
-    (λ c. let h = c.before.before.before.if1.false in omega arith)
+    (λ c. let h = c.before.before.before.if-k-eq0.false in omega arith)
     (λ c κs. search rules)
     (λ c κs.
-    let h = c.before.before.before.before.if1.false in
-    (omega (arith, c.before.before.before.before.before.before.requires.0), ready_parent c.before.before.before.before.before.before.requires.1 c.before.before.before.if2.false c.parent_of.ensures))
+    let h = c.before.before.before.before.if-k-eq0.false in
+    (omega (arith, c.before.before.before.before.before.before.requires.0), ready_parent c.before.before.before.before.before.before.requires.1 c.before.before.before.if-s-eq0.false c.parent_of.ensures))
     (λ c.
     let from = c.before.before.before.before.before.before.before in
     let d = from.args.chart.now in
-    let n = c.before.before.before.before.if2.false in
-    let e = row-found from.requires.1 n c.before.before.before.row_of.ensures.0 in
-    let none : has_row d from.args.g from.args.s ≡ false = rw (← e) (le-ltb _ _ c.before.before.if3.true) in
-    let q = nth_pass d from.args.g from.args.i from.args.k from.args.s c.before.before.before.before.before.if1.false n none in
-    (c.find-holder.ensures.0 ∙ ap (λ p. nth_out d from.args.g from.args.i (path (from.args.k - 1) d p)) c.before.parent_of.ensures ∙ sym q, c.find-holder.ensures.1))
+    let n = c.before.before.before.before.if-s-eq0.false in
+    let e = row-found from.requires.1 n c.before.before.before.row_of-j.ensures.0 in
+    let none : has_row d from.args.g from.args.s ≡ false = rw (← e) (le-ltb _ _ c.before.before.if-chart-j.true) in
+    let q = nth_pass d from.args.g from.args.i from.args.k from.args.s c.before.before.before.before.before.if-k-eq0.false n none in
+    (c.find_holder.ensures.0 ∙ ap (λ p. nth_out d from.args.g from.args.i (path (from.args.k - 1) d p)) c.before.parent_of.ensures ∙ sym q, c.find_holder.ensures.1))
     -- this row
     (λ c.
     let from = c.before.before.before.before.before.before in
     let d = from.args.chart.now in
-    let n = c.before.before.before.if2.false in
-    let e = row-found from.requires.1 n c.before.before.row_of.ensures.0 in
-    let found : has_row d from.args.g from.args.s ≡ true = rw (← e) (lt-ltb _ _ c.before.if3.false) in
-    let m = c.before.before.before.before.if1.false in
-    (sym (nth_here d from.args.g from.args.i from.args.k from.args.s m n found c.if4.true), from.requires.1.state))
+    let n = c.before.before.before.if-s-eq0.false in
+    let e = row-found from.requires.1 n c.before.before.row_of-j.ensures.0 in
+    let found : has_row d from.args.g from.args.s ≡ true = rw (← e) (lt-ltb _ _ c.before.if-chart-j.false) in
+    let m = c.before.before.before.before.if-k-eq0.false in
+    (sym (nth_here d from.args.g from.args.i from.args.k from.args.s m n found c.if-i-eq0.true), from.requires.1.state))
     (λ c κs. search rules)
     -- the last row
     (λ c.
     let from = c.before.before.before.before.before.before.before.before in
     let d = from.args.chart.now in
-    let n = c.before.before.before.before.before.if2.false in
-    let e = row-found from.requires.1 n c.before.before.before.before.row_of.ensures.0 in
-    let found : has_row d from.args.g from.args.s ≡ true = rw (← e) (lt-ltb _ _ c.before.before.before.if3.false) in
-    let m = c.before.before.before.before.before.before.if1.false in
-    let f : flag_of d from.args.g from.args.s ≡ 0 = rw (← e) (sym c.before.field.ensures ∙ c.if5.true) in
-    (sym (nth_last d from.args.g from.args.i from.args.k from.args.s m n found c.before.before.if4.false f), search rules))
+    let n = c.before.before.before.before.before.if-s-eq0.false in
+    let e = row-found from.requires.1 n c.before.before.before.before.row_of-j.ensures.0 in
+    let found : has_row d from.args.g from.args.s ≡ true = rw (← e) (lt-ltb _ _ c.before.before.before.if-chart-j.false) in
+    let m = c.before.before.before.before.before.before.if-k-eq0.false in
+    let f : flag_of d from.args.g from.args.s ≡ 0 = rw (← e) (sym c.before.field.ensures ∙ c.if-field-eq0.true) in
+    (sym (nth_last d from.args.g from.args.i from.args.k from.args.s m n found c.before.before.if-i-eq0.false f), search rules))
     -- another row
-    (λ c. let h = c.before.before.before.before.before.before.if1.false in omega arith)
+    (λ c. let h = c.before.before.before.before.before.before.if-k-eq0.false in omega arith)
     (λ c κs. search rules)
-    (λ c. let h = c.before.before.before.if4.false in omega arith)
+    (λ c. let h = c.before.before.before.if-i-eq0.false in omega arith)
     (λ c κs.
-    let h = c.before.before.before.before.before.before.before.if1.false in
-    (omega (arith, c.before.before.before.before.before.before.before.before.before.requires.0), ready_parent c.before.before.before.before.before.before.before.before.before.requires.1 c.before.before.before.before.before.before.if2.false c.parent-of2.ensures))
+    let h = c.before.before.before.before.before.before.before.if-k-eq0.false in
+    (omega (arith, c.before.before.before.before.before.before.before.before.before.requires.0), ready_parent c.before.before.before.before.before.before.before.before.before.requires.1 c.before.before.before.before.before.before.if-s-eq0.false c.parent_of-2.ensures))
     (λ c.
     let from = c.before.before.before.before.before.before.before.before.before.before in
     let d = from.args.chart.now in
-    let n = c.before.before.before.before.before.before.before.if2.false in
-    let e = row-found from.requires.1 n c.before.before.before.before.before.before.row_of.ensures.0 in
-    let found : has_row d from.args.g from.args.s ≡ true = rw (← e) (lt-ltb _ _ c.before.before.before.before.before.if3.false) in
-    let m = c.before.before.before.before.before.before.before.before.if1.false in
-    let f : flag_of d from.args.g from.args.s ≡ 0 → ⊥ = λ q. c.before.before.if5.false (c.before.before.before.field.ensures ∙ rw e q) in
-    let q = nth_next d from.args.g from.args.i from.args.k from.args.s m n found c.before.before.before.before.if4.false f in
-    (c.find-holder2.ensures.0 ∙ ap (λ p. nth_out d from.args.g (from.args.i - 1) (path (from.args.k - 1) d p)) c.before.parent-of2.ensures ∙ sym q, c.find-holder2.ensures.1))
+    let n = c.before.before.before.before.before.before.before.if-s-eq0.false in
+    let e = row-found from.requires.1 n c.before.before.before.before.before.before.row_of-j.ensures.0 in
+    let found : has_row d from.args.g from.args.s ≡ true = rw (← e) (lt-ltb _ _ c.before.before.before.before.before.if-chart-j.false) in
+    let m = c.before.before.before.before.before.before.before.before.if-k-eq0.false in
+    let f : flag_of d from.args.g from.args.s ≡ 0 → ⊥ = λ q. c.before.before.if-field-eq0.false (c.before.before.before.field.ensures ∙ rw e q) in
+    let q = nth_next d from.args.g from.args.i from.args.k from.args.s m n found c.before.before.before.before.if-i-eq0.false f in
+    (c.find_holder-2.ensures.0 ∙ ap (λ p. nth_out d from.args.g (from.args.i - 1) (path (from.args.k - 1) d p)) c.before.parent_of-2.ensures ∙ sym q, c.find_holder-2.ensures.1))

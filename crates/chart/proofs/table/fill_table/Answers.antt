@@ -24,8 +24,8 @@ loop-k-init c =
     let d = from.args.chart.now in
     let w = c.write_row in
     let r = c.rows_in-rows.ensures in
-    let first = ap (λ o. row_bytes (record { flag = 0; out = o })) c.start_of_lem.ensures ∙ row_same 0 (start d) (start_good d (accepted from.args.e d from.requires.0)).few in
-    (search rules, r.0, r.1, w.auto.0 ∙ from.requires.1 ∙ r.2, first_row from.args.e d w.new.0 (drop row_size from.args.table-1.now) (rw (← first) w.ensures))
+    let first = ap (λ o. row_bytes (record { flag = 0; out = o })) c.start_of.ensures ∙ row_same 0 (start d) (start_good d (accepted from.args.e d from.requires.0)).few in
+    (search rules, r.0, r.1, w.auto.part ∙ from.requires.1 ∙ r.2, first_row from.args.e d w.new.part (drop row_size from.args.table.now) (rw (← first) w.ensures))
 
 pub row_no-requires : goal.row_no-requires
 row_no-requires c =
@@ -41,12 +41,9 @@ loop-k-preserved c =
       search rules,
       at.invariant.1,
       at.invariant.2,
-      same_len_mid (row_size * k + row_size) (length at.table-1 - (row_size * k + row_size)) at.table-1 w.new.0 w.auto.0 ∙ at.invariant.3,
-      rw w.ensures (row-turn from.e from.chart.now k c.write_row.new.0 at.table-1 _ c.row_no.ensures at.invariant.4),
+      same_len_mid (row_size * k + row_size) (length at.table - (row_size * k + row_size)) at.table w.new.part w.auto.part ∙ at.invariant.3,
+      rw w.ensures (row-turn from.e from.chart.now k c.write_row.new.part at.table _ c.row_no.ensures at.invariant.4),
     )
-
-pub shape_of-table : goal.shape_of-table
-shape_of-table c = c.loop-k.invariant.3 ∙ sym (c.requires.1 ∙ c.rows_in-rows.ensures.2)
 
 pub returns : goal.returns
 returns c =
@@ -54,4 +51,4 @@ returns c =
     let at = c.loop-k in
     let w = c.write_row in
     let q : at.k ≡ c.rows_in-rows.result = omega (arith, at.invariant.0, c.loop-k-test.false) in
-    rows_done from.args.e from.args.chart.now at.k w.new.0 at.table-1 (q ∙ at.invariant.1) (w.auto.0 ∙ from.requires.1) at.invariant.4
+    rows_done from.args.e from.args.chart.now at.k w.new.part at.table (q ∙ at.invariant.1) (w.auto.part ∙ from.requires.1) at.invariant.4

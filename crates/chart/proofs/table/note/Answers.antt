@@ -1,3 +1,4 @@
+use mathlib.Core.Path.{◌∙◌, sym}
 use borrow.Author.Rules.{rules}
 use borrow.Author.Tests.{eq-eqb, ne_eqb}
 use native.Mathlib.Omega.{arith}
@@ -13,21 +14,21 @@ returns-then-part-ne2 c = simp (ne_eqb _ _ c.if-part-ne2.true)
 
 pub returns-then-not-is_among : goal.returns-then-not-is_among
 unfolding noted
-returns-then-not-is_among c = simp (eq-eqb _ _ c.if-part-ne2.false, refused c.is_among.ensures c.if-not-is_among.true)
+returns-then-not-is_among c = simp (eq-eqb _ _ c.if-part-ne2.false, sym c.is_among.ensures ∙ c.if-not-is_among.true)
 
 pub returns-then-not-is_signal : goal.returns-then-not-is_signal
 unfolding noted
 returns-then-not-is_signal c =
     simp (
       eq-eqb _ _ c.if-part-ne2.false,
-      passed c.is_among.ensures c.if-not-is_among.false,
-      refused c.is_signal.ensures c.if-not-is_signal.true,
+      sym c.is_among.ensures ∙ c.if-not-is_among.false,
+      sym c.is_signal.ensures ∙ c.if-not-is_signal.true,
     )
 
 pub bounds-index-k : goal.bounds-index-k
 bounds-index-k c =
-    let s = among_of (most_states Plain) _ (passed c.is_among.ensures c.if-not-is_among.false) in
-    let g = signal_of_lem _ (passed c.is_signal.ensures c.if-not-is_signal.false) in
+    let s = among_of (most_states Plain) _ (sym c.is_among.ensures ∙ c.if-not-is_among.false) in
+    let g = signal_of_lem _ (sym c.is_signal.ensures ∙ c.if-not-is_signal.false) in
     omega (arith, c.row_number-k.ensures.0, c.requires.1)
 
 pub returns : goal.returns
@@ -35,7 +36,7 @@ unfolding noted
 returns c =
     simp (
       eq-eqb _ _ c.if-part-ne2.false,
-      passed c.is_among.ensures c.if-not-is_among.false,
-      passed c.is_signal.ensures c.if-not-is_signal.false,
+      sym c.is_among.ensures ∙ c.if-not-is_among.false,
+      sym c.is_signal.ensures ∙ c.if-not-is_signal.false,
       c.row_number-k.ensures.0,
     )

@@ -6,8 +6,8 @@ use Rattle.chart.proofs.table.row_behind.Goals as goal
 
 pub returns-in-Plain : goal.returns-in-Plain
 unfolding behind row_of padded
-returns-in-Plain c = rw c.enum_told-1.given.1 (c.still.ensures ∙ refl)
+returns-in-Plain c = rw c.in-Plain.is (c.still.ensures ∙ refl)
 
 pub returns-in-Guarded : goal.returns-in-Guarded
 unfolding behind
-returns-in-Guarded c = rw c.enum_told-in-Guarded-1.given.1 c.still-in-Guarded.ensures
+returns-in-Guarded c = rw c.in-Guarded.is c.still-in-Guarded.ensures

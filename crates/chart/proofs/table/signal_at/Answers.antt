@@ -4,7 +4,7 @@ use native.Mathlib.Omega.{arith}
 use Rattle.chart.proofs.table.signal_at.Goals as goal
 
 pub returns-in-Plain : goal.returns-in-Plain
-returns-in-Plain c = rw c.enum_told-1.given.1 (omega arith, omega arith, omega arith)
+returns-in-Plain c = rw c.in-Plain.is (omega arith, omega arith, omega arith)
 
 pub returns-in-Guarded : goal.returns-in-Guarded
-returns-in-Guarded c = rw c.enum_told-in-Guarded-1.given.1 (refl, omega arith, omega arith)
+returns-in-Guarded c = rw c.in-Guarded.is (refl, omega arith, omega arith)

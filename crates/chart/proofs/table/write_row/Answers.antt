@@ -6,13 +6,13 @@ use Rattle.chart.specs.Numbers.{row_size}
 use Rattle.chart.proofs.table.write_row.Goals as goal
 
 pub slice_bounds-copy-end-2 : goal.slice_bounds-copy-end-2
-slice_bounds-copy-end-2 c = sym (length-take-le row_size c.args.part-1.now c.requires)
+slice_bounds-copy-end-2 c = sym (length-take-le row_size c.args.part.now c.requires)
 
 pub copy-requires : goal.copy-requires
 copy-requires c =
     let s = c in
     let long : length c.bytes_of.result ≡ row_size = search rules in
-    long ∙ sym (length-take-le row_size s.args.part-1.now s.requires)
+    long ∙ sym (length-take-le row_size s.args.part.now s.requires)
 
 pub returns : goal.returns
 returns c = rw (c.copy.ensures, c.bytes_of.ensures) refl

@@ -13,14 +13,14 @@ pub hand_out-requires : goal.hand_out-requires
 hand_out-requires c =
     let l = c.loop-i in
     let piece = c.args.piece.now in
-    let w = whole (get_or piece l.i 0) l.n l.escaped l.bytes-1 c.completes.ensures c.if-completes.true in
+    let w = whole (get_or piece l.i 0) l.n l.escaped l.bytes c.completes.ensures c.if-completes.true in
     (w.most, w.good)
 
 pub returns-then-completes : goal.returns-then-completes
 returns-then-completes c =
     let l = c.loop-i in
     let t = c.loop-i-test.true in
-    let f = c.hand_out.ensures in record { feeds = so_far_frame _ _ l.i _ _ _ l.bytes-1 _ _ _ l.invariant.2 t c.completes.ensures c.if-completes.true f.1 f.0; within = record { most = omega (arith, t, f.1); onward = λ h. omega (arith, f.1); small = f.2; rest = f.3 } }
+    let f = c.hand_out.ensures in record { feeds = so_far_frame _ _ l.i _ _ _ l.bytes _ _ _ l.invariant.2 t c.completes.ensures c.if-completes.true f.1 f.0; within = record { most = omega (arith, t, f.1); onward = λ h. omega (arith, f.1); small = f.2; rest = f.3 } }
 
 pub loop-i-preserved : goal.loop-i-preserved
 loop-i-preserved c =

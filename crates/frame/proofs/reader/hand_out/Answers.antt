@@ -6,12 +6,12 @@ use Rattle.frame.proofs.reader.hand_out.Goals as goal
 
 pub overflow_sub-result : goal.overflow_sub-result
 overflow_sub-result c =
-    let l : length c.args.t1 ≡ 96 = search rules in
-    fits_least c.args.t1 c.args.n (omega (arith, l, c.requires.0)) c.requires.1
+    let l : length c.args.bytes ≡ 96 = search rules in
+    fits_least c.args.bytes c.args.n (omega (arith, l, c.requires.0)) c.requires.1
 
 pub returns : goal.returns
 unfolding state_of part_of last_of frames_of fed_of
 returns c =
     let a = c in
-    let l : length a.args.t1 ≡ 96 = search rules in
-    (finished a.args.t1 a.args.n (omega (arith, l, a.requires.0)) _ _ a.requires.1 c.gap_at.ensures, refl, omega (arith, a.requires.0), rw (data_length a.args.t1 a.args.n (omega (arith, l, a.requires.0))) refl)
+    let l : length a.args.bytes ≡ 96 = search rules in
+    (finished a.args.bytes a.args.n (omega (arith, l, a.requires.0)) _ _ a.requires.1 c.gap_at.ensures, refl, omega (arith, a.requires.0), rw (data_length a.args.bytes a.args.n (omega (arith, l, a.requires.0))) refl)

@@ -8,4 +8,4 @@ unfolding check_of sum
 check n k s t r d e f g = let h : s ≡ sum d % 256 = rw take-length at e in omega (arith, h, f, g)
 
 pub returns : goal.returns
-returns c = check _ _ _ _ _ _ c.sum_of-s.ensures c.wrapping_add_u8.ensures c.wrapping_add_u8-2.ensures
+returns c = check _ _ _ _ _ _ c.sum_of-s.ensures c.wrapping_add_u8.ensures.value c.wrapping_add_u8-2.ensures.value

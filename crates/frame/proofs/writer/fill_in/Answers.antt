@@ -19,14 +19,11 @@ pub bounds-out-e : goal.bounds-out-e
 bounds-out-e c =
     omega (arith, frame-length _ _ _ _ c.requires.1)
 
-pub shape_of-out : goal.shape_of-out
-shape_of-out c = simp length-set (omega arith)
-
 pub returns : goal.returns
 returns c =
     let a = c in
     filled _ _ _ _ _ _ _ _ _ _ _ _ _ a.requires.1
     c.put-a.ensures
     c.put-b.ensures
-    c.put_all_lem.ensures
+    c.put_all-c.ensures
     c.put-e.ensures

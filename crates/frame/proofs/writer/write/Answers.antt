@@ -27,7 +27,7 @@ pub returns-then-bytes-gt-MOST_DATA : goal.returns-then-bytes-gt-MOST_DATA
 unfolding written area_after
 returns-then-bytes-gt-MOST_DATA c =
     let a = c.args in
-    rw (too_long (length a.out-1.now) a.number a.kind _ c.if-bytes-gt-MOST_DATA.true) record { value = c.refusal.ensures; out_after = refl; length_in_bounds = nothing _ _ _ c.refusal.ensures }
+    rw (too_long (length a.out.now) a.number a.kind _ c.if-bytes-gt-MOST_DATA.true) record { value = c.refusal.ensures; out_after = refl; length_in_bounds = nothing _ _ _ c.refusal.ensures }
 
 pub returns-then-out-size : goal.returns-then-out-size
 unfolding written area_after
