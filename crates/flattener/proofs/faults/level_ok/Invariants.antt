@@ -1,0 +1,14 @@
+use borrow.Author.Rules.{rules}
+use mathlib.Core.Path.{◌≡◌, sym, ap, ◌∙◌}
+use Prim.Native.Nat.{◌≤◌, ◌-◌}
+use lib.Dec.{eqb}
+use Rattle.chart.specs.Held.{up}
+use Rattle.chart.proofs.Laws.{up_more, up_done, level_same}
+use Rattle.chart.specs.Numbers.{levels}
+use Rattle.flattener.proofs.faults.level_ok.Given as goal
+
+abbrev pub invariant-loop-k : goal.invariant-loop-k
+invariant-loop-k l = (l.k ≤ levels) × (up (levels - l.k) l.chart l.t ≡ up levels l.chart l.s)
+
+abbrev pub decreases-loop-k : goal.decreases-loop-k
+decreases-loop-k l = levels - l.k

@@ -1,0 +1,40 @@
+use borrow.Author.Rules.{rules}
+use mathlib.Core.Bool.{true, false}
+use mathlib.Core.Path.{◌≡◌, sym, ◌∙◌}
+use Prim.Native.Nat.{◌≤◌, ◌-◌, ◌+◌, ◌*◌}
+use Rattle.ground.specs.Bools.{refused, passed}
+use Rattle.ground.specs.Every.{every_done, every_pass, every_fail}
+use Rattle.ground.specs.Parts.{tail_part}
+use Rattle.ground.specs.Range.{every}
+use Rattle.chart.specs.Chart.{tree_ok}
+use Rattle.chart.specs.Held.{state_at}
+use Rattle.flattener.proofs.faults.tree_ok.Goals as goal
+
+pub returns-then-not-is_among : goal.returns-then-not-is_among
+unfolding tree_ok
+returns-then-not-is_among c = simp (← c.field.ensures, sym c.is_among.ensures ∙ c.if-not-is_among.true)
+
+pub loop-i-init : goal.loop-i-init
+unfolding tree_ok
+loop-i-init c = (search rules, search rules, simp (← c.field.ensures, sym c.is_among.ensures ∙ c.if-not-is_among.false))
+
+pub returns-then-not-state_ok : goal.returns-then-not-state_ok
+returns-then-not-state_ok c =
+    let d = c.args.chart.now in
+    let n = c.args.n in
+    let at = c.loop-i in
+    let q : state_at n d at.i ≡ false = rw (← tail_part d (8 * at.i)) (sym c.state_ok.ensures ∙ c.if-not-state_ok.true) in
+    sym (every_fail (state_at n d) at.i (n + 1) (search rules) q) ∙ at.invariant.2
+
+pub loop-i-preserved : goal.loop-i-preserved
+loop-i-preserved c =
+    let d = c.args.chart.now in
+    let n = c.args.n in
+    let at = c.loop-i in
+    let q : state_at n d at.i ≡ true = rw (← tail_part d (8 * at.i)) (sym c.state_ok.ensures ∙ c.if-not-state_ok.false) in
+    (search rules, search rules, sym (every_pass (state_at n d) at.i (n + 1) (search rules) q) ∙ at.invariant.2)
+
+pub returns : goal.returns
+returns c =
+    let from = c.args in
+    sym (every_done (state_at from.n from.chart.now) c.loop-i.i (from.n + 1) (search rules)) ∙ c.loop-i.invariant.2

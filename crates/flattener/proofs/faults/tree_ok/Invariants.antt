@@ -1,0 +1,17 @@
+use borrow.Author.Rules.{rules}
+use mathlib.Core.Bool.{true, false}
+use mathlib.Core.Path.{◌≡◌, sym, ◌∙◌}
+use Prim.Native.Nat.{◌≤◌, ◌-◌, ◌+◌, ◌*◌}
+use Rattle.ground.specs.Bools.{refused, passed}
+use Rattle.ground.specs.Every.{every_done, every_pass, every_fail}
+use Rattle.ground.specs.Parts.{tail_part}
+use Rattle.ground.specs.Range.{every}
+use Rattle.chart.specs.Chart.{tree_ok}
+use Rattle.chart.specs.Held.{state_at}
+use Rattle.flattener.proofs.faults.tree_ok.Given as goal
+
+abbrev pub invariant-loop-i : goal.invariant-loop-i
+invariant-loop-i l = (1 ≤ l.i) × (l.i ≤ l.e) × (every (state_at l.n l.chart) l.i l.e ≡ tree_ok l.n l.chart)
+
+abbrev pub decreases-loop-i : goal.decreases-loop-i
+decreases-loop-i l = l.e - l.i

@@ -1,0 +1,13 @@
+use borrow.Author.Rules.{rules}
+use borrow.Author.Tests.{not-true, not-false}
+use mathlib.Core.Path.{refl}
+use Rattle.publish.proofs.is_full.Goals as goal
+
+pub returns-then-not-subscribes : goal.returns-then-not-subscribes
+returns-then-not-subscribes c = rw (← c.subscribes.ensures, c.if-not-subscribes.true) refl
+
+pub returns : goal.returns
+returns c =
+    let s = c in
+    let t = s.subscribes in
+    rw (c.room_of.ensures, c.of_object-2.ensures.0, c.of_object.ensures.0, ← t.ensures, s.if-not-subscribes.false) refl

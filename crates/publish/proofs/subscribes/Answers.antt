@@ -1,0 +1,6 @@
+use borrow.Author.Rules.{rules}
+use mathlib.Core.Path.{refl}
+use Rattle.publish.proofs.subscribes.Goals as goal
+
+pub returns : goal.returns
+returns c = rw c.byte_at.ensures refl
