@@ -7,13 +7,13 @@ use Rattle.tick.proofs.tick_timer.Statement.{statement}
 use Rattle.tick.proofs.tick_timer.Tie as tie
 
 returns : tie.Need-returns-then-left-eq0
-returns c =turn_off _ _ _ _ _ _ _ _ _ _ _ c.before.before.before.requires.0 c.before.before.before.requires.1 c.if-left-eq0.true
+returns c = let s = c.before.before in turn_off _ _ _ _ _ _ _ _ _ _ _ s.requires.0 s.requires.1 c.if-left-eq0.true
 
 returns-2 : tie.Need-returns-then-left-gt1
-returns-2 c =turn_less _ _ _ _ _ _ _ _ _ _ _ c.before.before.before.before.requires.0 c.before.before.before.before.requires.1 c.before.if-left-eq0.false c.if-left-gt1.true
+returns-2 c = let s = c.before.before.before in turn_less _ _ _ _ _ _ _ _ _ _ _ s.requires.0 s.requires.1 c.before.if-left-eq0.false c.if-left-gt1.true
 
 room-is : (c : tie.After-room_of) →
-    let a = c.before.before.before.before.before.before.before.before.before.before.before.before.before.args in
+    let a = c.before.before.before.before.before.before.before.before.before.before.before.args in
     let p = get_or a.owners.now a.t 0 in
     c.room_of.result ≡ get_or a.depths.now (p - 1) 0 - get_or a.counts.now (p - 1) 0
 room-is c =
@@ -22,25 +22,28 @@ room-is c =
 
 returns-3 : tie.Need-returns-then-room_of-eq0
 returns-3 c =
+    let s = c.before.before.before.before.before.before.before.before.before.before.before.before.before in
     let e = c.one_late.ensures in
     rw (e.0, e.1)
-    (turn_late _ _ _ _ _ _ _ _ _ _ _ c.before.before.before.before.before.before.before.before.before.before.before.before.before.before.before.requires.0 c.before.before.before.before.before.before.before.before.before.before.before.before.before.before.before.requires.1 c.before.before.before.before.before.before.before.before.before.before.before.before.if-left-eq0.false
-    c.before.before.before.before.before.before.before.before.before.before.before.if-left-gt1.false (sym (room-is c.before.before) ∙ c.before.if-room_of-eq0.true))
+    (turn_late _ _ _ _ _ _ _ _ _ _ _ s.requires.0 s.requires.1 c.before.before.before.before.before.before.before.before.before.before.before.if-left-eq0.false
+    c.before.before.before.before.before.before.before.before.before.before.if-left-gt1.false (sym (room-is c.before.before) ∙ c.before.if-room_of-eq0.true))
 
 fire-requires : tie.Need-fire-requires
 fire-requires c κs =
+    let s = c.before.before.before.before.before.before.before.before.before.before.before.before.before.before.before in
     let h =
-    may-fire _ _ _ _ _ _ _ _ _ _ _ c.before.before.before.before.before.before.before.before.before.before.before.before.before.before.before.before.before.before.requires.0 c.before.before.before.before.before.before.before.before.before.before.before.before.before.before.before.before.before.before.requires.1 c.before.before.before.before.before.before.before.before.before.before.before.before.before.before.before.if-left-eq0.false c.before.before.before.before.before.before.before.before.before.before.before.before.before.before.if-left-gt1.false
-    (λ e. c.before.before.before.before.if-room_of-eq0.false (room-is c.before.before.before.before.before ∙ e)) in
-    rw c.before.before.before.before.before.before.before.before.before.before.before.wide-p.ensures.0 (c.before.before.before.before.before.before.before.before.before.before.before.before.before.before.before.before.before.before.requires.0.mail, h)
+    may-fire _ _ _ _ _ _ _ _ _ _ _ s.requires.0 s.requires.1 c.before.before.before.before.before.before.before.before.before.before.before.before.before.if-left-eq0.false c.before.before.before.before.before.before.before.before.before.before.before.before.if-left-gt1.false
+    (λ e. c.before.before.before.if-room_of-eq0.false (room-is c.before.before.before.before ∙ e)) in
+    rw c.before.before.before.before.before.before.before.before.before.before.wide-p.ensures.0 (s.requires.0.mail, h)
 
 returns-4 : tie.Need-returns
 returns-4 c =
+    let s = c.before.before.before.before.before.before.before.before.before.before.before.before.before.before.before.before.before.before in
     let e = c.one_fired.ensures in
     rw (e.0, e.1)
-    (turn-fire _ _ _ _ _ _ _ _ _ _ _ c.before.before.before.before.before.before.before.before.before.before.before.before.before.before.before.before.before.before.before.before.before.before.requires.0 c.before.before.before.before.before.before.before.before.before.before.before.before.before.before.before.before.before.before.before.before.before.before.requires.1 c.before.before.before.before.before.before.before.before.before.before.before.before.before.before.before.before.before.before.before.if-left-eq0.false c.before.before.before.before.before.before.before.before.before.before.before.before.before.before.before.before.before.before.if-left-gt1.false
-    (λ e. c.before.before.before.before.before.before.before.before.if-room_of-eq0.false (room-is c.before.before.before.before.before.before.before.before.before ∙ e))
-    _ _ (rw c.before.before.before.before.before.before.before.before.before.before.before.before.before.before.before.wide-p.ensures.0 at c.before.before.before.fire.ensures))
+    (turn-fire _ _ _ _ _ _ _ _ _ _ _ s.requires.0 s.requires.1 c.before.before.before.before.before.before.before.before.before.before.before.before.before.before.before.before.if-left-eq0.false c.before.before.before.before.before.before.before.before.before.before.before.before.before.before.before.if-left-gt1.false
+    (λ e. c.before.before.before.before.before.before.if-room_of-eq0.false (room-is c.before.before.before.before.before.before.before ∙ e))
+    _ _ (rw c.before.before.before.before.before.before.before.before.before.before.before.before.before.wide-p.ensures.0 at c.before.before.fire.ensures))
 
 pub tick_timer_spec : {M : Type 1} → statement M
 tick_timer_spec =

@@ -5,8 +5,7 @@ use lib.Dec.{eqb, ltb}
 use Rattle.machine.specs.State.{is_open}
 use Rattle.mail.specs.Entry.{first_timer, hand_of, timer_of}
 use Rattle.mail.specs.declared.Hand.TheVariants.{Nothing, Block}
-use Rattle.state.proofs.is_open.Statement.{statement}
-use Rattle.state.proofs.is_open.Tie as tie
+use Rattle.state.proofs.is_open.Goals as goal
 
 -- what an entry stands for is nothing only if it is 0
 open-unless : (none block : Bool) (b t : ℕ) → not none ≡ is_open (cond none Nothing (cond block (Block b) (timer_of t)))
@@ -19,8 +18,5 @@ open-entry : (e : ℕ) → not (eqb e 0) ≡ is_open (hand_of e)
 unfolding hand_of
 open-entry e = open-unless (eqb e 0) (ltb e first_timer) (e - 1) (e - first_timer)
 
-returns : tie.Need-returns
+pub returns : goal.returns
 returns c = open-entry c.args.hand
-
-pub is-open-spec : {M : Type 1} → statement M
-is-open-spec = tie.close (tie.spec returns)

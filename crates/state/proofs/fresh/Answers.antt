@@ -10,19 +10,12 @@ use Rattle.machine.specs.Numbers.{objects, side_queues}
 use Rattle.mail.specs.Entry.{hand_of}
 use Rattle.mail.specs.View.{boxes-fresh}
 use Rattle.state.specs.View.{state_of}
-use Rattle.state.proofs.fresh.Statement.{statement}
-use Rattle.state.proofs.fresh.Tie as tie
+use Rattle.state.proofs.fresh.Goals as goal
 
 -- no flag is up
 down : in_words (replicate (most_flag Guarded) 0) ≡ (λ p. all_down)
 down = λ i p. words_down p i
 
-returns : tie.Need-returns
+pub returns : goal.returns
 unfolding state_of hand_of
-returns c = (
-  rw (c.fresh.ensures.0, c.fresh.ensures.1, boxes-fresh objects, boxes-fresh side_queues, down) refl,
-  rw (c.fresh.ensures.0, c.fresh.ensures.1, boxes-fresh objects, boxes-fresh side_queues, down) fresh_inv,
-)
-
-pub fresh-spec : {M : Type 1} → statement M
-fresh-spec = tie.close (tie.spec (λ c κs. search rules) returns)
+returns c = record { result_value = rw (c.fresh.ensures.result_value, c.fresh.ensures.result_value_2, boxes-fresh objects, boxes-fresh side_queues, down) refl; good = rw (c.fresh.ensures.result_value, c.fresh.ensures.result_value_2, boxes-fresh objects, boxes-fresh side_queues, down) fresh_inv }
