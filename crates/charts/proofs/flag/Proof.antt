@@ -13,43 +13,43 @@ use Rattle.charts.proofs.Slots.{flag_tests_lem, flag_allowed}
 use Rattle.charts.proofs.flag.Statement.{statement}
 use Rattle.charts.proofs.flag.Tie as tie
 
-module _ (c : tie.After-flag-refusal) where
+module _ (c : tie.After-flag_refusal-no) where
   abbrev entry : tie.Start
   entry = c.before.before.before.before.before
 
-  tests-are : c.flag-refusal.result ≡ lowest (flag_tests entry.args.spoilt entry.args.p entry.args.f entry.args.v (state_of entry.args.k))
+  tests-are : c.flag_refusal-no.result ≡ lowest (flag_tests entry.args.spoilt entry.args.p entry.args.f entry.args.v (state_of entry.args.k))
   tests-are =
-      c.flag-refusal.ensures
+      c.flag_refusal-no.ensures
       ∙ flag_tests_lem entry.args.k entry.args.spoilt entry.args.p entry.args.f entry.args.v 0 _ _
       c.before.is_open.ensures
-      c.before.before.of_object.ensures.0
+      c.before.before.of_object-started.ensures.0
 
-  allowed : c.flag-refusal.result ≡ 0 → (entry.args.p ≤ objects) × (1 ≤ entry.args.f) × (entry.args.f ≤ most_flag Guarded)
+  allowed : c.flag_refusal-no.result ≡ 0 → (entry.args.p ≤ objects) × (1 ≤ entry.args.f) × (entry.args.f ≤ most_flag Guarded)
   allowed z = flag_allowed entry.args.k entry.args.spoilt entry.args.p entry.args.f entry.args.v _ tests-are z
 
 -- among the kernel's fields the search does not reach this length
-slice-aggregate-of-object : tie.Need-slice-aggregate-of-object
+slice-aggregate-of-object : tie.Need-slice_bounds-of_object-end
 slice-aggregate-of-object c = search (rules, depths_length c.before.before.args.k _ c.before.before.well-formed.0)
 
-returns : tie.Need-returns
+returns : tie.Need-returns-then-no-ne0
 unfolding flag
-returns c = λ z. refusal _ _ _ _ z _ (tests-are c.before.before) c.before.if1.true c.refuse.ensures
+returns c = λ z. refusal _ _ _ _ z _ (tests-are c.before.before) c.before.if-no-ne0.true c.refuse.ensures
 
-with-flag-requires : tie.Need-with-flag-requires
-with-flag-requires c κs = allowed c.before c.if1.false
+with-flag-requires : tie.Need-with_flag-requires
+with-flag-requires c κs = allowed c.before c.if-no-ne0.false
 
-flag-changes-requires : tie.Need-flag-changes-requires
-flag-changes-requires c κs = allowed c.before.before c.before.if1.false
+flag-changes-requires : tie.Need-flag_changes-requires
+flag-changes-requires c κs = allowed c.before.before c.before.if-no-ne0.false
 
-returns-2 : tie.Need-returns-2
+returns-2 : tie.Need-returns
 unfolding flag answered
 returns-2 c = λ z.
     let t = c.before.before.before.before.before in
-    doing _ _ _ _ z _ (tests-are t) c.before.before.before.before.if1.false
-    (rw (c.before.before.before.with-flag.ensures, c.done.ensures, ← c.before.before.flag-changes.ensures, c.before.one.ensures.0) refl)
+    doing _ _ _ _ z _ (tests-are t) c.before.before.before.before.if-no-ne0.false
+    (rw (c.before.before.before.with_flag.ensures, c.done.ensures, ← c.before.before.flag_changes.ensures, c.before.one.ensures.0) refl)
 
-pub flag-spec : {M : Type 1} → statement M
-flag-spec =
+pub flag_spec : {M : Type 1} → statement M
+flag_spec =
     tie.close
     (tie.spec slice-aggregate-of-object (λ c κs. search rules) (λ c κs. search rules) (λ c κs. search rules) (λ c κs. search rules) returns with-flag-requires
     flag-changes-requires (λ c κs. search rules) (λ c κs. search rules) returns-2)

@@ -15,64 +15,64 @@ use Rattle.charts.proofs.Slots.{load_tests_lem, load_allowed}
 use Rattle.charts.proofs.load.Statement.{statement}
 use Rattle.charts.proofs.load.Tie as tie
 
-module _ (c : tie.After-load-refusal) where
+module _ (c : tie.After-load_refusal-no) where
   abbrev entry : tie.Start
   entry = c.before.before.before.before.before.before.before.before
 
   abbrev lent : BothTables
-  lent = both entry.args.tables.now entry.args.guarded.now
+  lent = both entry.args.tables-1.now entry.args.guarded-1.now
 
-  tests-are : c.load-refusal.result ≡ lowest (load_tests entry.args.spoilt entry.args.q (state_of entry.args.k) lent)
+  tests-are : c.load_refusal-no.result ≡ lowest (load_tests entry.args.spoilt entry.args.q (state_of entry.args.k) lent)
   tests-are =
-      c.load-refusal.ensures
+      c.load_refusal-no.ensures
       ∙ load_tests_lem entry.args.k entry.args.spoilt entry.args.q 0 lent _ _ _
-      c.before.before.before.slot-bad.ensures
+      c.before.before.before.slot_bad-bad_slot.ensures
       c.before.before.is_open.ensures
-      c.before.slot-used.ensures
+      c.before.slot_used.ensures
 
-  allowed : c.load-refusal.result ≡ 0 →
-      (entry.args.q < slots) × (length entry.args.tables.now ≡ table_bytes) × (entry.args.q ≡ guarded_slot → length entry.args.guarded.now ≡ guarded_bytes)
+  allowed : c.load_refusal-no.result ≡ 0 →
+      (entry.args.q < slots) × (length entry.args.tables-1.now ≡ table_bytes) × (entry.args.q ≡ guarded_slot → length entry.args.guarded-1.now ≡ guarded_bytes)
   allowed z = load_allowed entry.args.k entry.args.spoilt entry.args.q _ lent tests-are z
 
-returns : tie.Need-returns
+returns : tie.Need-returns-then-no-ne0
 unfolding load
-returns c = λ p l. refusal _ _ _ _ (areas p _ _ l) _ (tests-are c.before.before) c.before.if1.true c.refuse.ensures
+returns c = λ p l. refusal _ _ _ _ (areas p _ _ l) _ (tests-are c.before.before) c.before.if-no-ne0.true c.refuse.ensures
 
-fill-slot-requires : tie.Need-fill-slot-requires
-fill-slot-requires c κs = allowed c.before.before.before c.before.before.if1.false
+fill-slot-requires : tie.Need-fill_slot-class-requires
+fill-slot-requires c κs = allowed c.before.before.before c.before.before.if-no-ne0.false
 
-cast-bad-chart : tie.Need-overflow-cast-bad-chart
+cast-bad-chart : tie.Need-overflow_cast-class
 cast-bad-chart c =
-    let f = c.before.before.before.before.before.fill-slot.ensures in
+    let f = c.before.before.before.before.before.fill_slot-class.ensures in
     let a = (entry c.before.before.before.before.before.before.before.before.before).args in
     omega (arith, f.0, class_most (edition_of a.q) a.chart.now)
 
-returns-2 : tie.Need-returns-2
+returns-2 : tie.Need-returns-then-class-ne0
 unfolding load answered
 returns-2 c = λ p l.
     let d = c.before.before.before.before.before.before.before.before.before.before in
-    let f = c.before.before.before.before.before.before.fill-slot.ensures in
-    let bad = c.before.if2.true in
-    writing _ _ _ _ (areas p _ _ l) _ (tests-are d) (areas p _ _ l) c.before.before.before.before.before.before.before.before.before.if1.false
-    (rw (fault_some _ _ _ _ (λ e. bad (f.0 ∙ e)), c.bad-chart.ensures, f.0, f.1.1 bad) refl)
+    let f = c.before.before.before.before.before.before.fill_slot-class.ensures in
+    let bad = c.before.if-class-ne0.true in
+    writing _ _ _ _ (areas p _ _ l) _ (tests-are d) (areas p _ _ l) c.before.before.before.before.before.before.before.before.before.if-no-ne0.false
+    (rw (fault_some _ _ _ _ (λ e. bad (f.0 ∙ e)), c.bad_chart.ensures, f.0, f.1.1 bad) refl)
 
-with-chart-requires : tie.Need-with-chart-requires
-with-chart-requires c κs = (allowed c.before.before.before.before.before.before.before.before.before c.before.before.before.before.before.before.before.before.if1.false).0
+with-chart-requires : tie.Need-with_chart-requires
+with-chart-requires c κs = (allowed c.before.before.before.before.before.before.before.before.before c.before.before.before.before.before.before.before.before.if-no-ne0.false).0
 
-cast-done : tie.Need-overflow-cast-done
+cast-done : tie.Need-overflow_cast-state_count
 cast-done c =
-    let class = c.before.before.before.before.before.before.before.fill-slot.ensures.0 in
+    let class = c.before.before.before.before.before.before.before.fill_slot-class.ensures.0 in
     let a = (entry c.before.before.before.before.before.before.before.before.before.before.before).args in
-    omega (arith, c.state-count.ensures, at_most (edition_of a.q) (states a.chart.now) a.chart.now (accepted (edition_of a.q) a.chart.now (sym class ∙ c.before.before.if2.false)).forms)
+    omega (arith, c.state_count.ensures, at_most (edition_of a.q) (states a.chart.now) a.chart.now (accepted (edition_of a.q) a.chart.now (sym class ∙ c.before.before.if-class-ne0.false)).forms)
 
-returns-3 : tie.Need-returns-3
+returns-3 : tie.Need-returns
 unfolding load answered
 returns-3 c = λ p l.
     let d = c.before.before.before.before.before.before.before.before.before.before.before.before in
-    let f = c.before.before.before.before.before.before.before.before.fill-slot.ensures in
-    let good = c.before.before.before.if2.false in
-    writing _ _ _ _ (areas p _ _ l) _ (tests-are d) (areas p _ _ l) c.before.before.before.before.before.before.before.before.before.before.before.if1.false
-    (rw (fault_none _ _ _ _ (sym f.0 ∙ good), c.before.before.with-chart.ensures, c.done.ensures, c.before.state-count.ensures, f.1.0 good) refl)
+    let f = c.before.before.before.before.before.before.before.before.fill_slot-class.ensures in
+    let good = c.before.before.before.if-class-ne0.false in
+    writing _ _ _ _ (areas p _ _ l) _ (tests-are d) (areas p _ _ l) c.before.before.before.before.before.before.before.before.before.before.before.if-no-ne0.false
+    (rw (fault_none _ _ _ _ (sym f.0 ∙ good), c.before.before.with_chart.ensures, c.done.ensures, c.before.state_count.ensures, f.1.0 good) refl)
 
 pub load_spec : {M : Type 1} → statement M
 load_spec =

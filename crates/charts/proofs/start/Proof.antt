@@ -13,72 +13,72 @@ use Rattle.charts.proofs.Slots.{Startable, start_tests_lem, startable}
 use Rattle.charts.proofs.start.Statement.{statement}
 use Rattle.charts.proofs.start.Tie as tie
 
-module _ (c : tie.After-start-refusal) where
+module _ (c : tie.After-start_refusal-no) where
   abbrev entry : tie.Start
   entry = c.before.before.before.before.before.before.before.before.before.before.before.before
 
   abbrev lent : BothTables
   lent = both entry.args.tables.now entry.args.guarded.now
 
-  row_is : c.before.before.before.before.before.before.before.before.start-row.result.now ≡ start_row lent entry.args.q
-  row_is = c.before.before.before.before.before.before.before.before.start-row.ensures
+  row_is : c.before.before.before.before.before.before.before.before.start_row-row.result.now ≡ start_row lent entry.args.q
+  row_is = c.before.before.before.before.before.before.before.before.start_row-row.ensures
 
-  tested : c.before.start-sound.result ≡ start_sound (edition_of entry.args.q) (start_row lent entry.args.q)
+  tested : c.before.start_sound.result ≡ start_sound (edition_of entry.args.q) (start_row lent entry.args.q)
   tested =
-      c.before.start-sound.ensures
-      ∙ ap (λ e. start_sound e c.before.before.before.before.before.before.before.before.start-row.result.now) c.before.before.edition-of.ensures
+      c.before.start_sound.ensures
+      ∙ ap (λ e. start_sound e c.before.before.before.before.before.before.before.before.start_row-row.result.now) c.before.before.edition_of.ensures
       ∙ ap (start_sound (edition_of entry.args.q)) row_is
 
-  tests-are : c.start-refusal.result
+  tests-are : c.start_refusal-no.result
       ≡ lowest (start_tests entry.args.spoilt entry.args.p entry.args.q entry.args.depth (state_of entry.args.k) lent)
   tests-are =
-      c.start-refusal.ensures
+      c.start_refusal-no.ensures
       ∙ start_tests_lem entry.args.k entry.args.spoilt entry.args.p entry.args.q entry.args.depth 0 lent _ _ _ _ _
-      c.before.before.before.before.before.before.before.slot-bad.ensures
+      c.before.before.before.before.before.before.before.slot_bad.ensures
       c.before.before.before.before.before.before.is_open.ensures
-      c.before.before.before.before.before.is-loaded.ensures
+      c.before.before.before.before.before.is_loaded.ensures
       c.before.before.before.of_object.ensures.0
       tested
 
-  allowed : c.start-refusal.result ≡ 0 → Startable entry.args.p entry.args.q entry.args.depth c.before.before.before.before.before.before.before.before.start-row.result.now
+  allowed : c.start_refusal-no.result ≡ 0 → Startable entry.args.p entry.args.q entry.args.depth c.before.before.before.before.before.before.before.before.start_row-row.result.now
   allowed z = startable entry.args.k entry.args.spoilt entry.args.p entry.args.q entry.args.depth _ lent _ row_is tests-are z
 
 -- among the kernel's fields the search does not reach this length
-slice-aggregate-of-object : tie.Need-slice-aggregate-of-object
+slice-aggregate-of-object : tie.Need-slice_bounds-of_object-end
 slice-aggregate-of-object c =
     let s = c.before.before.before.before.before.before.before.before in
     search (rules, depths_length s.args.k _ s.well-formed.0)
 
-returns : tie.Need-returns
+returns : tie.Need-returns-then-no-ne0
 unfolding start
-returns c = λ x l. refusal _ _ _ _ (areas x _ _ l) _ (tests-are c.before.before) c.before.if1.true c.refuse.ensures
+returns c = λ x l. refusal _ _ _ _ (areas x _ _ l) _ (tests-are c.before.before) c.before.if-no-ne0.true c.refuse.ensures
 
-shared-slice-read-started-at : tie.Need-shared-slice-read-started-at
+shared-slice-read-started-at : tie.Need-bounds-row-0
 shared-slice-read-started-at c =
-    let h = allowed c.before.before c.before.if1.false in
+    let h = allowed c.before.before c.before.if-no-ne0.false in
     omega (arith, h.sound.whole)
 
-started-at-requires : tie.Need-started-at-requires
+started-at-requires : tie.Need-started_at-requires
 started-at-requires c κs =
-    let h = allowed c.before.before c.before.if1.false in
+    let h = allowed c.before.before c.before.if-no-ne0.false in
     (h.low, h.high, h.slot, h.deep)
 
-cast-ran : tie.Need-overflow-cast-ran
+cast-ran : tie.Need-overflow_cast-p
 cast-ran c =
-    let h = allowed c.before.before.before c.before.before.if1.false in
+    let h = allowed c.before.before.before c.before.before.if-no-ne0.false in
     omega (arith, h.high)
 
 ran-requires : tie.Need-ran-requires
 ran-requires c κs =
-    let h = allowed c.before.before.before c.before.before.if1.false in
+    let h = allowed c.before.before.before c.before.before.if-no-ne0.false in
     ((h.sound.whole, h.sound.outcome, search rules), row_of_answer _ _ h.sound)
 
-returns-2 : tie.Need-returns-2
+returns-2 : tie.Need-returns
 unfolding start answered answer_of
 returns-2 c = λ x l.
     let t = c.before.before.before.before in
-    doing _ _ _ _ (areas x _ _ l) _ (tests-are t) c.before.before.before.if1.false
-    (rw (c.before.started-at.ensures, c.ran.ensures, row_is t) refl)
+    doing _ _ _ _ (areas x _ _ l) _ (tests-are t) c.before.before.before.if-no-ne0.false
+    (rw (c.before.started_at.ensures, c.ran.ensures, row_is t) refl)
 
 pub start_spec : {M : Type 1} → statement M
 start_spec =
