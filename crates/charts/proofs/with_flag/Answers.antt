@@ -8,7 +8,7 @@ use Rattle.charts.proofs.with_flag.Goals as goal
 pub set-requires : goal.set-requires
 set-requires c =
     let s = c in
-    let long = flags_length s.args.k _ s.well-formed.0 in
+    let long = flags_length s.args.k _ s.well_formed.0 in
     (omega (arith, s.requires.0), s.requires.1, s.requires.2, long)
 
 pub returns : goal.returns
