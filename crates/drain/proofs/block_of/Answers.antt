@@ -1,4 +1,3 @@
-use borrow.Author.Rules.{rules}
 use mathlib.Core.Path.{refl}
 use Rattle.machine.specs.Run.{block_of}
 use Rattle.drain.proofs.block_of.Goals as goal

@@ -1,4 +1,3 @@
-use borrow.Author.Rules.{rules}
 use mathlib.Core.Path.{refl}
 use Rattle.chart.specs.Held.{is_sound}
 use Rattle.drain.proofs.is_sound.Goals as goal

@@ -1,4 +1,3 @@
-use borrow.Author.Rules.{rules}
 use mathlib.Core.Path.{refl, sym, ◌∙◌}
 use native.Mathlib.Omega.{arith}
 use Rattle.machine.specs.Inv.{IsEvent}
@@ -8,18 +7,15 @@ use Rattle.drain.proofs.look.Goals as goal
 -- The entry stands for the block of this arm, and that is a block.
 pub bounds-signals-i : goal.bounds-signals-i
 unfolding IsEvent
-bounds-signals-i c =
-    let b = c in
-    omega (arith, c.wide-i.ensures.0, rw (← b.hand_of.ensures, c.in-Block.is) at b.requires)
+bounds-signals-i c = omega (arith, c.wide-i.ensures.0, rw (← c.hand_of.ensures, c.in-Block.is) at c.requires)
 
 pub bounds-gens-i : goal.bounds-gens-i
-bounds-gens-i c = in_range c
+unfolding IsEvent
+bounds-gens-i c = omega (arith, c.wide-i.ensures.0, rw (← c.hand_of.ensures, c.in-Block.is) at c.requires)
 
 pub overflow_add-result : goal.overflow_add-result
 unfolding IsEvent
-overflow_add-result c =
-    let b = c in
-    omega (arith, (rw (← b.hand_of.ensures, c.in-Timer.is) at b.requires).0)
+overflow_add-result c = omega (arith, (rw (← c.hand_of.ensures, c.in-Timer.is) at c.requires).0)
 
 pub returns-in-Nothing : goal.returns-in-Nothing
 unfolding IsEvent
@@ -28,10 +24,9 @@ returns-in-Nothing c = λ s e g. absurd (rw (← c.hand_of.ensures, c.in-Nothing
 pub returns-in-Block : goal.returns-in-Block
 unfolding signal_of first_byte generation_in IsEvent
 returns-in-Block c = λ s e g.
-    let b = c in
-    let h = sym b.hand_of.ensures ∙ c.in-Block.is in
+    let h = sym c.hand_of.ensures ∙ c.in-Block.is in
     let w = c.wide-i.ensures.0 in
-    record { signal = rw (w, h, e) refl; first = rw h refl; generation = rw (w, h) (sym (g _ (rw h at b.requires))) }
+    record { signal = rw (w, h, e) refl; first = rw h refl; generation = rw (w, h) (sym (g _ (rw h at c.requires))) }
 
 pub returns-in-Timer : goal.returns-in-Timer
 unfolding signal_of first_byte generation_in

@@ -1,33 +1,29 @@
-use borrow.Author.Rules.{rules}
 use mathlib.Core.Path.{◌≡◌, refl, sym, ◌∙◌}
-use Prim.Native.Nat.{◌-◌, ◌≤◌}
+use Prim.Native.Nat.{◌-◌}
 use native.Mathlib.Omega.{arith}
 use Rattle.chart.specs.Flags.{in_words}
 use Rattle.machine.proofs.Run.{run_stop}
-use Rattle.machine.specs.Numbers.{objects}
 use Rattle.machine.specs.Reply.{both}
-use Rattle.machine.specs.Run.{FitRun, run_from, seen}
+use Rattle.machine.specs.Run.{seen}
 use Rattle.mail.specs.View.{boxes, queued_in}
-use Rattle.drain.specs.Lent.{Above, Sized, run_at}
+use Rattle.drain.specs.Lent.{run_at}
 use Rattle.drain.proofs.Laws.{above_all, above_empty, none_is, none_queued}
 use Rattle.drain.proofs.run.Goals as goal
 
 pub loop-p-init : goal.loop-p-init
 loop-p-init c =
-    let s = c in
-    let a = s.args in
+    let a = c.args in
     let z : a.budget - 0 ≡ a.budget = omega arith in
-    (omega arith, omega arith, s.requires.sized.0, s.requires.fit_run, rw (← s.requires.sized.0.counts) (above_all a.places.now a.heads.now a.counts.now), rw z refl)
+    (omega arith, omega arith, c.requires.sized.0, c.requires.fit_run, rw (← c.requires.sized.0.counts) (above_all a.places.now a.heads.now a.counts.now), rw z refl)
 
 pub turn-n-requires : goal.turn-n-requires
 turn-n-requires c =
-    let s = c in
     let v = c.loop-p.invariant in
     record {
       sized = v.2;
-      long = s.requires.sized.1;
-      long_guarded = s.requires.sized.2;
-      most = s.requires.sized.3;
+      long = c.requires.sized.1;
+      long_guarded = c.requires.sized.2;
+      most = c.requires.sized.3;
       within = v.1;
       low = c.loop-p-test.true;
       high = v.0;

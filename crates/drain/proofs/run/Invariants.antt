@@ -1,15 +1,11 @@
-use borrow.Author.Rules.{rules}
-use mathlib.Core.Path.{◌≡◌, refl, sym, ◌∙◌}
+use mathlib.Core.Path.{◌≡◌}
 use Prim.Native.Nat.{◌-◌, ◌≤◌}
-use native.Mathlib.Omega.{arith}
 use Rattle.chart.specs.Flags.{in_words}
-use Rattle.machine.proofs.Run.{run_stop}
 use Rattle.machine.specs.Numbers.{objects}
 use Rattle.machine.specs.Reply.{both}
-use Rattle.machine.specs.Run.{FitRun, run_from, seen}
-use Rattle.mail.specs.View.{boxes, queued_in}
+use Rattle.machine.specs.Run.{FitRun, run_from}
+use Rattle.mail.specs.View.{boxes}
 use Rattle.drain.specs.Lent.{Above, Sized, run_at}
-use Rattle.drain.proofs.Laws.{above_all, above_empty, none_is, none_queued}
 use Rattle.drain.proofs.run.Given as goal
 
 -- What is left of the run, from where it stands, is the whole run; and no object above p has mail.
