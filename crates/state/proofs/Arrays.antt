@@ -17,28 +17,28 @@ use Rattle.state.specs.contracts.Kernel.{the_type}
 -- the arrays of a kernel have their lengths, as its type says
 module _ (k : Kernel) (vs : List Val) (h : Is (row the_type) k vs) where
   pub rings : length k.counts ≡ objects
-  rings = sym (length-map k.counts (λ v. v)) ∙ h.1.1.1.1.1.1.1.1.1.1.1.1.1.1.1.1.1.1.1.1.1.0.1.0.1
+  rings = h.1.1.1.1.1.1.1.1.1.1.1.1.1.1.1.1.1.1.1.1.1.0.1.0.1
 
   pub heads_length : length k.heads ≡ objects
-  heads_length = sym (length-map k.heads (λ v. v)) ∙ h.1.1.1.1.1.1.1.1.1.1.1.1.1.1.1.1.1.1.1.1.0.1.0.1
+  heads_length = h.1.1.1.1.1.1.1.1.1.1.1.1.1.1.1.1.1.1.1.1.0.1.0.1
 
   pub mail_of : Mail k.places k.heads k.counts
   mail_of = record {
-    places = rw rings (sym (length-map k.places (λ v. v)) ∙ h.1.1.0.1.0.1);
+    places = rw rings (h.1.1.0.1.0.1);
     heads = heads_length ∙ sym rings;
   }
 
   pub side_rings : length k.side_counts ≡ side_queues
-  side_rings = sym (length-map k.side_counts (λ v. v)) ∙ h.1.1.1.1.1.1.1.1.1.1.1.1.0.1.0.1
+  side_rings = h.1.1.1.1.1.1.1.1.1.1.1.1.0.1.0.1
 
   pub sides_of : Mail k.side_places k.side_heads k.side_counts
   sides_of = record {
-    places = rw side_rings (sym (length-map k.side_places (λ v. v)) ∙ h.1.1.1.0.1.0.1);
-    heads = rw side_rings (sym (length-map k.side_heads (λ v. v)) ∙ h.1.1.1.1.1.1.1.1.1.1.1.0.1.0.1);
+    places = rw side_rings (h.1.1.1.0.1.0.1);
+    heads = rw side_rings (h.1.1.1.1.1.1.1.1.1.1.1.0.1.0.1);
   }
 
   pub depths_length : length k.depths ≡ objects
-  depths_length = sym (length-map k.depths (λ v. v)) ∙ h.1.1.1.1.1.1.1.1.1.1.0.1.0.1
+  depths_length = h.1.1.1.1.1.1.1.1.1.1.0.1.0.1
 
   -- every object has a mailbox
   pub box_of_lem : (p : ℕ) → 1 ≤ p → p ≤ objects → p - 1 < length k.counts
@@ -46,4 +46,4 @@ module _ (k : Kernel) (vs : List Val) (h : Is (row the_type) k vs) where
 
   -- there is a word for each flag
   pub flags_length : length k.flags ≡ most_flag Guarded
-  flags_length = sym (length-map k.flags (λ v. v)) ∙ h.1.1.1.1.1.0.1.0.1
+  flags_length = h.1.1.1.1.1.0.1.0.1

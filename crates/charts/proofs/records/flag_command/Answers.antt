@@ -1,0 +1,7 @@
+use borrow.Author.Rules.{rules}
+use Rattle.machine.specs.Machine.{choose, command}
+use Rattle.charts.proofs.records.flag_command.Goals as goal
+
+pub returns : goal.returns
+unfolding choose command
+returns c = λ d z. rw (← c.arg-3.ensures.0, ← c.arg-2.ensures.0, ← c.arg.ensures.0, ← c.spoilt.ensures) (c.flag.ensures z)

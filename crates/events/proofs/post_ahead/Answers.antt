@@ -1,0 +1,20 @@
+use borrow.Author.Rules.{rules}
+use mathlib.Core.Path.{refl, sym}
+use Rattle.machine.specs.Events.{posted_front}
+use Rattle.mail.specs.Entry.{entry_of}
+use Rattle.state.proofs.Arrays.{box_of_lem, mail_of, rings}
+use Rattle.state.specs.View.{state_of}
+use Rattle.events.proofs.post_ahead.Goals as goal
+
+pub slice_bounds-push_front-end-3 : goal.slice_bounds-push_front-end-3
+slice_bounds-push_front-end-3 c = sym (rings c.args.k _ c.well_formed.0)
+
+pub push_front-requires : goal.push_front-requires
+push_front-requires c =
+    let s = c in
+    let k = s.args.k in
+    record { mail = mail_of k _ s.well_formed.0; q_in_bounds = (box_of_lem k _ s.well_formed.0 _ s.requires.1 s.requires.2, s.requires.3) }
+
+pub returns : goal.returns
+unfolding state_of posted_front entry_of
+returns c = rw (c.add-pool.ensures.result_value, c.add-pool.ensures.result_value_2, c.push_front.ensures.holds.are) refl

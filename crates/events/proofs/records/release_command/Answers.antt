@@ -1,0 +1,7 @@
+use borrow.Author.Rules.{rules}
+use Rattle.machine.specs.Machine.{choose, command}
+use Rattle.events.proofs.records.release_command.Goals as goal
+
+pub returns : goal.returns
+unfolding choose command
+returns c = λ d z. rw (← c.generation.ensures, ← c.arg.ensures.0, ← c.spoilt.ensures) (c.release.ensures z)

@@ -1,0 +1,21 @@
+use borrow.Author.Rules.{rules}
+use mathlib.Core.Path.{◌≡◌}
+use Prim.Native.Nat.{◌+◌, ◌-◌}
+use native.Mathlib.Omega.{arith}
+use Rattle.machine.proofs.Blocks.{place_end}
+use Rattle.machine.specs.Numbers.{capacity}
+use Rattle.layout.proofs.Places.{put-over}
+use Rattle.layout.proofs.put_payload.Goals as goal
+
+pub slice_bounds-fill-end : goal.slice_bounds-fill-end
+slice_bounds-fill-end c =
+    let s = c in
+    omega (arith, place_end s.args.b s.requires.0)
+
+pub returns : goal.returns
+returns c =
+    let s = c in
+    let at = c.place_of-at in
+    let cap = c.capacity_of in
+    let n : at.result + cap.result - at.result ≡ capacity s.args.b = omega (arith, cap.ensures.0) in
+    put-over s.args.b at.result (at.result + cap.result - at.result) s.args.payloads.now s.args.payload.now _ s.requires.0 s.requires.1 at.ensures.0 n c.fill.ensures

@@ -1,0 +1,7 @@
+use borrow.Author.Rules.{rules}
+use Rattle.machine.specs.Machine.{choose, command}
+use Rattle.steps.proofs.records.end_command.Goals as goal
+
+pub returns : goal.returns
+unfolding choose command
+returns c = λ d z. rw (← c.spoilt.ensures) (c.end.ensures z)

@@ -1,0 +1,7 @@
+use borrow.Author.Rules.{rules}
+use Rattle.machine.specs.Machine.{choose, command}
+use Rattle.steps.proofs.records.next_command.Goals as goal
+
+pub returns : goal.returns
+unfolding choose command
+returns c = λ d p l. rw (← c.spoilt.ensures) (c.next.ensures p l)

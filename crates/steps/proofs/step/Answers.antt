@@ -1,0 +1,21 @@
+use borrow.Author.Rules.{rules}
+use mathlib.Core.Path.{refl, sym}
+use Rattle.state.proofs.Arrays.{box_of_lem, heads_length, mail_of, rings}
+use Rattle.state.specs.View.{state_of}
+use Rattle.steps.proofs.step.Goals as goal
+
+pub slice_bounds-take_front-end-2 : goal.slice_bounds-take_front-end-2
+slice_bounds-take_front-end-2 c = sym (heads_length c.args.k _ c.well_formed.0)
+
+pub slice_bounds-take_front-end-3 : goal.slice_bounds-take_front-end-3
+slice_bounds-take_front-end-3 c = sym (rings c.args.k _ c.well_formed.0)
+
+pub take_front-requires : goal.take_front-requires
+take_front-requires c =
+    let s = c in
+    let k = s.args.k in
+    record { mail = mail_of k _ s.well_formed.0; q_in_bounds = (box_of_lem k _ s.well_formed.0 _ s.requires.0 s.requires.1, s.requires.2) }
+
+pub returns : goal.returns
+unfolding state_of
+returns c = rw (c.take_front.ensures.holds.are, c.take_front.ensures.value) refl
