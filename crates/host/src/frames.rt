@@ -22,7 +22,7 @@ const SIZE: usize = 4;
 const BYTES: usize = 5;
 
 // What is told of a frame: a byte for each of these, and room for the most data.
-const TOLD_BYTES: usize = BYTES + MOST_DATA;
+pub const TOLD_BYTES: usize = BYTES + MOST_DATA;
 
 // The frame that was completed, if any, as a host is told it.
 fn told(fed: Fed) -> [u8; TOLD_BYTES]
@@ -57,13 +57,7 @@ fn after_piece(r: Reader, piece: &[u8], read: &mut usize, frame: &mut [u8; TOLD_
 }
 
 // Writes a frame at the front of an area, and answers how many bytes it has, 0 where it is refused. The number is then that of the next.
-#[unsafe(no_mangle)]
-pub extern "C" fn trunhoac_frame_write(
-    number: &mut u8,
-    kind: u8,
-    bytes: &[u8],
-    out: &mut [u8],
-) -> usize
+pub fn trunhoac_frame_write(number: &mut u8, kind: u8, bytes: &[u8], out: &mut [u8]) -> usize
     ensures { Writes out.old number.old kind bytes.now result number.new out.new }
 {
     let frame = frame::writer::write(*number, kind, bytes, out);
@@ -72,16 +66,14 @@ pub extern "C" fn trunhoac_frame_write(
 }
 
 // Makes a reader that has read nothing.
-#[unsafe(no_mangle)]
-pub extern "C" fn trunhoac_reader_fresh(r: &mut Reader)
+pub fn trunhoac_reader_fresh(r: &mut Reader)
     ensures { state_of r.new ≡ fresh }
 {
     *r = frame::reader::new_reader();
 }
 
 // Reads a piece up to and with the first byte that completes a frame, else all of it.
-#[unsafe(no_mangle)]
-pub extern "C" fn trunhoac_reader_feed(
+pub fn trunhoac_reader_feed(
     r: &mut Reader,
     piece: &[u8],
     read: &mut usize,

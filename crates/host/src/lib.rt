@@ -1,6 +1,4 @@
-// The kernel for a host in C or Rust, which keeps the struct and the areas as plain memory.
-//
-// The walk of a reference to a struct is proved by hand, so each exported function is one line over a function that takes the struct itself.
+// The kernel for a host in C or Rust, which keeps the struct and the areas as plain memory. `host_c` exports each function under its name.
 #![tactic(auto)]
 
 pub mod frames;
@@ -35,16 +33,14 @@ fn find_part(k: Kernel, record: &[u8], payloads: &[u8], place: &mut usize, lengt
 }
 
 // Makes a fresh kernel.
-#[unsafe(no_mangle)]
-pub extern "C" fn trunhoac_fresh(k: &mut Kernel)
+pub fn trunhoac_fresh(k: &mut Kernel)
     ensures { (state_of k.new ≡ fresh_state) × Good k.new }
 {
     *k = made();
 }
 
 // Any record, with the chart that LOAD loads, and the areas.
-#[unsafe(no_mangle)]
-pub extern "C" fn trunhoac_command(
+pub fn trunhoac_command(
     k: &mut Kernel,
     record: &[u8],
     chart: &[u8],
@@ -64,8 +60,7 @@ pub extern "C" fn trunhoac_command(
 }
 
 // Where the part that READ hands back begins in the payload area, and how long it is; 0 and 0 when refused, and for any other record.
-#[unsafe(no_mangle)]
-pub extern "C" fn trunhoac_read(
+pub fn trunhoac_read(
     k: &Kernel,
     record: &[u8],
     payloads: &[u8],
@@ -79,29 +74,25 @@ pub extern "C" fn trunhoac_read(
 }
 
 // The chart calls under their own names, so that one library has all.
-#[unsafe(no_mangle)]
-pub extern "C" fn chart_check(chart: &[u8]) -> u32
+pub fn chart_check(chart: &[u8]) -> u32
     ensures { result ≡ class_of Plain chart.now }
 {
     flattener::chart_check(chart)
 }
 
-#[unsafe(no_mangle)]
-pub extern "C" fn chart_check_guarded(chart: &[u8]) -> u32
+pub fn chart_check_guarded(chart: &[u8]) -> u32
     ensures { result ≡ class_of Guarded chart.now }
 {
     flattener::chart_check_guarded(chart)
 }
 
-#[unsafe(no_mangle)]
-pub extern "C" fn chart_flatten(chart: &[u8], table: &mut [u8]) -> u32
+pub fn chart_flatten(chart: &[u8], table: &mut [u8]) -> u32
     ensures { (result ≡ (flattened Plain chart.now table.old).0) × (table.new ≡ (flattened Plain chart.now table.old).1) }
 {
     flattener::chart_flatten(chart, table)
 }
 
-#[unsafe(no_mangle)]
-pub extern "C" fn chart_flatten_guarded(chart: &[u8], table: &mut [u8]) -> u32
+pub fn chart_flatten_guarded(chart: &[u8], table: &mut [u8]) -> u32
     ensures { (result ≡ (flattened Guarded chart.now table.old).0) × (table.new ≡ (flattened Guarded chart.now table.old).1) }
 {
     flattener::chart_flatten_guarded(chart, table)

@@ -10,8 +10,7 @@ use Rattle.frame.specs.View.{frames_of}
 use Rattle.frame.specs.Wire.{most_data}
 use Rattle.frame.specs.declared.reader.Fed.{Fed}
 use Rattle.host.specs.Frames.{Whole, told_frame}
-use Rattle.host.proofs.frames.after_piece.Statement.{statement}
-use Rattle.host.proofs.frames.after_piece.Tie as tie
+use Rattle.host.proofs.frames.after_piece.Goals as goal
 
 at_most_one : (b : Bool) (f : Frame) → length f.bytes ≤ most_data → Whole (cond b (f ∷ []) [])
 unfolding Whole
@@ -22,18 +21,15 @@ whole : (f : Fed) → f.size ≤ most_data → Whole (frames_of f)
 unfolding frames_of
 whole f h = at_most_one f.complete _ (rw length-take (omega arith))
 
-returns : tie.Need-returns
+pub returns : goal.returns
 returns c =
-    let f = c.before.before.feed.result in
-    let p = c.before.before.feed.ensures.0 in
-    let w = c.before.before.feed.ensures.1 in
+    let f = c.feed-fed.result in
+    let p = c.feed-fed.ensures.feeds in
+    let w = c.feed-fed.ensures.within in
     record {
       fed = record { bytes = p.bytes; handed = refl; then = p.then };
       whole = subst Whole p.handed (whole f w.small);
-      told = c.before.told.ensures ∙ ap told_frame p.handed;
+      told = c.told-bytes.ensures ∙ ap told_frame p.handed;
       most = w.most;
       onward = w.onward;
     }
-
-pub after-piece-spec : {M : Type 1} → statement M
-after-piece-spec = tie.close (tie.spec (λ c κs. search rules) (λ c κs. search rules) returns)

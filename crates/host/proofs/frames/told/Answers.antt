@@ -12,8 +12,7 @@ use Rattle.ground.specs.Padding.{padded_short, padded_whole}
 use Rattle.frame.specs.View.{frames_of}
 use Rattle.frame.specs.Wire.{most_bytes, most_data}
 use Rattle.host.specs.Frames.{told_frame}
-use Rattle.host.proofs.frames.told.Statement.{statement}
-use Rattle.host.proofs.frames.told.Tie as tie
+use Rattle.host.proofs.frames.told.Goals as goal
 
 zeros-left : (m n : ℕ) → m ≤ n → drop {A = ℕ} m (replicate n 0) ≡ replicate (n - m) 0
 zeros-left zero n h = let e : n - 0 ≡ n = omega arith in rw e refl
@@ -36,29 +35,23 @@ module _ (bytes : List ℕ) (n : ℕ) (sized : length bytes ≡ most_bytes) (few
       let l : length (take n (replicate {A = ℕ} most_data 0)) ≡ n = length-take-le n _ few in
       rw (e, e₅, e₂, l) (filled (take n (drop 2 bytes)) n size_is few)
 
-returns : tie.Need-returns
+pub returns-then-not-fed : goal.returns-then-not-fed
 unfolding told_frame frames_of
-returns c =
-    let e : c.before.before.args.fed.complete ≡ false = not-true _ c.if1.true in
+returns-then-not-fed c =
+    let e : c.args.fed.complete ≡ false = not-true _ c.if-not-fed.true in
     rw e refl
 
-part-fill-end : tie.Need-slice-bounds-fill-end
-part-fill-end c =
-    let a = c.before.before.before.before.before.before in
+pub slice_bounds-fill-end : goal.slice_bounds-fill-end
+slice_bounds-fill-end c =
+    let a = c in
     let l : length a.args.fed.reader.bytes ≡ most_bytes = search rules in
     omega (arith, l, a.requires)
 
-returns-2 : tie.Need-returns-2
+pub returns : goal.returns
 unfolding told_frame frames_of
-returns-2 c =
-    let a = c.before.before.before.before.before.before.before.before.before.before in
+returns c =
+    let a = c in
     let f = a.args.fed in
     let l : length f.reader.bytes ≡ most_bytes = search rules in
-    let e : f.complete ≡ true = not-false _ c.before.before.before.before.before.before.before.before.if1.false in
-    rw (e, c.one.ensures.0, size_is f.reader.bytes f.size l a.requires, data-told f.reader.bytes f.size l a.requires _ c.before.before.fill.ensures) refl
-
-pub told-spec : {M : Type 1} → statement M
-told-spec =
-    tie.close
-    (tie.spec returns (λ c. search rules) (λ c. search rules) (λ c. search rules) (λ c. search rules) (λ c. search rules) (λ c. search rules) (λ c. search rules)
-    part-fill-end (λ c κs. search rules) (λ c. search rules) (λ c. search rules) (λ c. search rules) (λ c κs. search rules) (λ c. search rules) (λ c. search rules) (λ c. search rules) returns-2)
+    let e : f.complete ≡ true = not-false _ c.if-not-fed.false in
+    rw (e, c.one.ensures.0, size_is f.reader.bytes f.size l a.requires, data-told f.reader.bytes f.size l a.requires _ c.fill.ensures) refl

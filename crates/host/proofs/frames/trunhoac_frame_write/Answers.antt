@@ -10,8 +10,7 @@ use lib.ListN.{length, length-append}
 use Rattle.frame.specs.Wire.{frame_bytes}
 use Rattle.frame.specs.Writing.{refused, written}
 use Rattle.frame.specs.declared.writer.Written.{Written}
-use Rattle.host.proofs.frames.trunhoac_frame_write.Statement.{statement}
-use Rattle.host.proofs.frames.trunhoac_frame_write.Tie as tie
+use Rattle.host.proofs.frames.trunhoac_frame_write.Goals as goal
 
 -- every frame has a byte at least
 some : (n k : ℕ) (d : List ℕ) → 0 < length (frame_bytes n k d)
@@ -26,15 +25,12 @@ none_written : (room n k : ℕ) (d : List ℕ) → eqb (written room n k d).leng
 unfolding written
 none_written room n k d = none (refused room n k d) _ _ refl (some n k d)
 
-returns : tie.Need-returns
+pub returns : goal.returns
 returns c =
-    let w = c.before.before.write.ensures in
+    let w = c.write-frame.ensures in
     record {
-      size_is = ap (λ r. r.length) w.0;
-      refusal = ap (λ r. eqb r.length 0) w.0 ∙ none_written _ _ _ _;
-      next-is = ap (λ r. r.next) w.0;
-      area_is = w.1.0;
+      size_is = ap (λ r. r.length) w.value;
+      refusal = ap (λ r. eqb r.length 0) w.value ∙ none_written _ _ _ _;
+      next-is = ap (λ r. r.next) w.value;
+      area_is = w.out_after;
     }
-
-pub trunhoac-frame-write-spec : {M : Type 1} → statement M
-trunhoac-frame-write-spec = tie.close (tie.spec (λ c κs. search rules) (λ c. search rules) returns)
