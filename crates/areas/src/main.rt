@@ -2,6 +2,7 @@
 // Its input and what it writes are those of `calls`.
 #![tactic(auto)]
 
+ghost use Rattle.std.specs.Prelude.{IfOk};
 ghost use Rattle.state.specs.View.{Good};
 
 use calls::{
@@ -9,6 +10,8 @@ use calls::{
 };
 use kernel::{Answered, Kernel};
 use numbers::REPLY_BYTES;
+use std::io;
+use std::io::Read;
 
 // As long as one byte can say.
 const RECORD_ROOM: usize = 255;
@@ -38,7 +41,7 @@ fn begin(
     kernel::fresh()
 }
 
-// Lends what the head says. That there is so much, `fits` has seen; `io::count` tells it to the proof.
+// Lends what the head says. That there is so much, `fits` has seen; `min` tells it to the proof.
 fn call(
     k: Kernel,
     head: Head,
@@ -52,10 +55,10 @@ fn call(
     requires { Good k }
     ensures { Good result.kernel }
 {
-    let p = io::count(head.payloads as isize, payloads);
-    let t = io::count(head.tables as isize, tables);
-    let g = io::count(head.guarded as isize, guarded);
-    let l = io::count(head.log as isize, log);
+    let p = payloads.len().min(head.payloads as usize);
+    let t = tables.len().min(head.tables as usize);
+    let g = guarded.len().min(head.guarded as usize);
+    let l = log.len().min(head.log as usize);
     kernel::command(
         k,
         record,
@@ -69,6 +72,7 @@ fn call(
 
 // Writes the line of a call. A READ leaves the kernel as it was, so the part is that of the kernel after the call.
 fn tell(
+    rt: &impl Print,
     k: Kernel,
     head: Head,
     record: &[u8],
@@ -77,16 +81,17 @@ fn tell(
     tables: &[u8],
     guarded: &[u8],
     log: &[u8],
-)
+) -> io::Result<()>
     requires { Good k }
 {
-    let p = io::count(head.payloads as isize, payloads);
+    let p = payloads.len().min(head.payloads as usize);
     let part = kernel::read_part(k, record, &payloads[..p]);
-    calls::write_line(reply, payloads, tables, guarded, log, part);
+    calls::write_line(rt, reply, payloads, tables, guarded, log, part)
 }
 
 // Makes a call, after its poke, and tells of it.
 fn call_and_tell(
+    rt: &impl Print,
     k: Kernel,
     head: Head,
     record: &[u8],
@@ -95,21 +100,31 @@ fn call_and_tell(
     tables: &mut [u8],
     guarded: &mut [u8],
     log: &mut [u8],
-) -> Kernel
+) -> io::Result<Kernel>
     requires { Good k }
-    ensures { Good result }
+    ensures { IfOk result (λ next. Good next) }
 {
     poke(head, TO_TABLES, tables);
     poke(head, TO_GUARDED, guarded);
     let answered = call(k, head, record, chart, payloads, tables, guarded, log);
     let next = answered.kernel;
-    let reply = answered.reply;
-    tell(next, head, record, reply, payloads, tables, guarded, log);
-    next
+    tell(
+        rt,
+        next,
+        head,
+        record,
+        answered.reply,
+        payloads,
+        tables,
+        guarded,
+        log,
+    )?;
+    Ok(next)
 }
 
 // Begins anew where the head says so, makes the call with as much of record and chart as it says, and tells of it.
 fn make(
+    rt: &impl Print,
     k: Kernel,
     head: Head,
     record: &[u8],
@@ -118,14 +133,15 @@ fn make(
     tables: &mut [u8],
     guarded: &mut [u8],
     log: &mut [u8],
-) -> Kernel
+) -> io::Result<Kernel>
     requires { Good k }
-    ensures { Good result }
+    ensures { IfOk result (λ next. Good next) }
 {
-    let n = io::count(head.record as isize, record);
-    let m = io::count(head.chart as isize, chart);
+    let n = record.len().min(head.record as usize);
+    let m = chart.len().min(head.chart as usize);
     let ready = begin(k, head.is_fresh, payloads, tables, guarded, log);
     call_and_tell(
+        rt,
         ready,
         head,
         &record[..n],
@@ -146,49 +162,58 @@ struct Run {
 
 // Reads a call and makes it. The last turn is where the input ends, or a head asks for more than there is.
 fn turn(
+    rt: &impl Print,
+    input: &mut impl Read,
     k: Kernel,
     payloads: &mut [u8],
     tables: &mut [u8],
     guarded: &mut [u8],
     log: &mut [u8],
-) -> Run
+) -> io::Result<Run>
     requires { Good k }
-    ensures { Good result.kernel }
+    ensures { IfOk result (λ next. Good next.kernel) }
 {
-    let head = calls::read_head();
+    let head = calls::read_head(input)?;
     let mut record = [0u8; RECORD_ROOM];
     let mut chart = [0u8; CHART_ROOM];
-    if !calls::read_rest(head, &mut record, &mut chart) {
-        return Run {
+    if !calls::read_rest(input, head, &mut record, &mut chart)? {
+        return Ok(Run {
             kernel: k,
             goes_on: false,
-        };
+        });
     }
-    Run {
-        kernel: make(k, head, &record, &chart, payloads, tables, guarded, log),
+    Ok(Run {
+        kernel: make(
+            rt, k, head, &record, &chart, payloads, tables, guarded, log,
+        )?,
         goes_on: true,
-    }
+    })
 }
 
-// A proved loop has to end, and nothing says that the input does: so the turns are counted down.
-fn main() {
+// A proved loop has to end, and nothing says that the input does: so the turns are counted.
+fn main(rt: HostRuntime) -> io::Result<()> {
     let mut payloads = [0u8; PAYLOADS_ROOM];
     let mut tables = [0u8; TABLES_ROOM];
     let mut guarded = [0u8; GUARDED_ROOM];
     let mut log = [0u8; LOG_ROOM];
+    let mut input = rt.reader();
     let mut run = Run {
         kernel: kernel::fresh(),
         goes_on: true,
     };
-    let mut turns = u64::MAX;
-    while turns > 0 && run.goes_on {
+    for _ in 0..u64::MAX {
+        if !run.goes_on {
+            break;
+        }
         run = turn(
+            &rt,
+            &mut input,
             run.kernel,
             &mut payloads,
             &mut tables,
             &mut guarded,
             &mut log,
-        );
-        turns -= 1;
+        )?;
     }
+    Ok(())
 }

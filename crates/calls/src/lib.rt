@@ -17,6 +17,8 @@
 
 use input::{low_byte_first, read_exactly};
 use numbers::REPLY_BYTES;
+use std::io;
+use std::io::Read;
 use text::{sum_of, with_named};
 
 // Each area that is kept is one byte longer than the kernel's.
@@ -52,10 +54,10 @@ pub struct Head {
     pub chart: u16,
 }
 
-pub fn read_head() -> Head {
+pub fn read_head(input: &mut impl Read) -> io::Result<Head> {
     let mut bytes = [0u8; HEAD_BYTES];
-    let is_there = read_exactly(&mut bytes, HEAD_BYTES as u16);
-    Head {
+    let is_there = read_exactly(input, &mut bytes, HEAD_BYTES as u16)?;
+    Ok(Head {
         is_there,
         is_fresh: bytes[0] == 1,
         record: low_byte_first(bytes[1], 0),
@@ -68,7 +70,7 @@ pub fn read_head() -> Head {
         offset: low_byte_first(bytes[12], bytes[13]),
         byte: bytes[14],
         chart: low_byte_first(bytes[15], bytes[16]),
-    }
+    })
 }
 
 // Whether there is room for what the head asks for.
@@ -83,14 +85,19 @@ fn fits(head: Head) -> bool {
 }
 
 // Reads what stands behind the head, and answers whether the whole call is there.
-pub fn read_rest(head: Head, record: &mut [u8], chart: &mut [u8]) -> bool {
+pub fn read_rest(
+    input: &mut impl Read,
+    head: Head,
+    record: &mut [u8],
+    chart: &mut [u8],
+) -> io::Result<bool> {
     if !head.is_there || !fits(head) {
-        return false;
+        return Ok(false);
     }
-    if !read_exactly(record, head.given) {
-        return false;
+    if !read_exactly(input, record, head.given)? {
+        return Ok(false);
     }
-    read_exactly(chart, head.chart)
+    read_exactly(input, chart, head.chart)
 }
 
 pub fn clear(area: &mut [u8]) {
@@ -106,18 +113,20 @@ pub fn poke(head: Head, which: u8, area: &mut [u8]) {
 }
 
 pub fn write_line(
+    rt: &impl Print,
     reply: [u8; REPLY_BYTES],
     payloads: &[u8],
     tables: &[u8],
     guarded: &[u8],
     log: &[u8],
     part: &[u8],
-) {
-    let replied = text::with_reply(text::empty(), reply);
-    let with_payloads = with_named(replied, b" payloads ", sum_of(payloads));
-    let with_tables = with_named(with_payloads, b" tables ", sum_of(tables));
-    let with_guarded = with_named(with_tables, b" guarded ", sum_of(guarded));
-    let with_areas = with_named(with_guarded, b" log ", sum_of(log));
-    let with_length = with_named(with_areas, b" part ", part.len() as u64);
-    text::write(with_named(with_length, b" sum ", sum_of(part)));
+) -> io::Result<()> {
+    let replied = text::with_reply(rt, text::empty(), reply)?;
+    let with_payloads = with_named(rt, replied, b" payloads ", sum_of(payloads))?;
+    let with_tables = with_named(rt, with_payloads, b" tables ", sum_of(tables))?;
+    let with_guarded = with_named(rt, with_tables, b" guarded ", sum_of(guarded))?;
+    let with_areas = with_named(rt, with_guarded, b" log ", sum_of(log))?;
+    let with_length = with_named(rt, with_areas, b" part ", part.len() as u64)?;
+    let whole = with_named(rt, with_length, b" sum ", sum_of(part))?;
+    text::write(rt, whole)
 }

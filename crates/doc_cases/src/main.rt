@@ -11,11 +11,14 @@
 // So the program has to write what it reads: stdout is a copy of stdin.
 #![tactic(auto)]
 
-ghost use Rattle.io.specs.Counts.{IsPrefixLen};
+ghost use Rattle.std.specs.Prelude.{◌≤◌, length, IfOk};
 ghost use Rattle.state.specs.View.{Good};
 
 use kernel::{Answered, Kernel};
 use numbers::{GUARDED_AREA, LOG_AREA, PAYLOAD_AREA, TABLE_AREA};
+use std::io;
+use std::io::Read;
+use std::rt::Files;
 use text::Line;
 use words::Record;
 
@@ -34,18 +37,18 @@ struct Run {
 
 // Puts a record behind the first n bytes of the chart, as far as there is room, and answers how many bytes it has then.
 fn put_record(chart: &mut [u8], n: usize, record: Record) -> usize
-    requires { IsPrefixLen n chart.old }
-    ensures { IsPrefixLen result chart.new }
+    requires { n ≤ length chart.old }
+    ensures { result ≤ length chart.new }
 {
-    let bytes = record.bytes;
-    let size = io::count(record.size as isize, &bytes);
+    let size = record.bytes.len().min(record.size as usize);
     let room = chart.len() - n;
-    ground::fill(&mut chart[n..], &bytes[..size]);
+    ground::fill(&mut chart[n..], &record.bytes[..size]);
     if room < size { chart.len() } else { n + size }
 }
 
 // The answer to a record with the chart before it. Where there is none, a LOAD finds its chart in a file.
 fn answer(
+    rt: &impl Files,
     k: Kernel,
     record: &[u8],
     chart: &[u8],
@@ -53,18 +56,19 @@ fn answer(
     tables: &mut [u8],
     guarded: &mut [u8],
     log: &mut [u8],
-) -> Answered
+) -> io::Result<Answered>
     requires { Good k }
-    ensures { Good result.kernel }
+    ensures { IfOk result (λ answered. Good answered.kernel) }
 {
     if chart.len() == 0 {
-        return player::answer(k, record, player::HERE, payloads, tables, guarded, log);
+        return player::answer(rt, k, record, player::HERE, payloads, tables, guarded, log);
     }
-    kernel::command(k, record, chart, payloads, tables, guarded, log)
+    Ok(kernel::command(k, record, chart, payloads, tables, guarded, log))
 }
 
 // Has a command answered with the chart before it, which no later command is lent, and writes its line with the reply.
 fn answer_command(
+    rt: &(impl Files + Print),
     run: Run,
     record: Record,
     line: Line,
@@ -73,33 +77,30 @@ fn answer_command(
     tables: &mut [u8],
     guarded: &mut [u8],
     log: &mut [u8],
-) -> Run
+) -> io::Result<Run>
     requires good { Good run.kernel }
-    requires prefix_len { IsPrefixLen run.written chart.now }
-    ensures good_2 { Good result.kernel }
-    ensures prefix_len_2 { IsPrefixLen result.written chart.now }
+    requires written { run.written ≤ length chart.now }
+    ensures good_2 { IfOk result (λ next. Good next.kernel) }
+    ensures written_2 { IfOk result (λ next. next.written ≤ length chart.now) }
 {
-    let k = run.kernel;
     let n = run.written;
-    let bytes = record.bytes;
-    let size = io::count(record.size as isize, &bytes);
+    let size = record.bytes.len().min(record.size as usize);
     let answered = answer(
-        k,
-        &bytes[..size],
+        rt,
+        run.kernel,
+        &record.bytes[..size],
         &chart[..n],
         payloads,
         tables,
         guarded,
         log,
-    );
-    let reply = answered.reply;
-    text::write(text::with_reply(line, reply));
-    let next = answered.kernel;
-    Run {
-        kernel: next,
+    )?;
+    text::write(rt, text::with_reply(rt, line, answered.reply)?)?;
+    Ok(Run {
+        kernel: answered.kernel,
         written: 0,
         ..run
-    }
+    })
 }
 
 // Whether a record is for the kernel, and so has a reply.
@@ -110,9 +111,9 @@ fn is_command(record: Record) -> bool {
 // The run behind a line that is no command.
 fn after_line(run: Run, record: Record, chart: &mut [u8]) -> Run
     requires good { Good run.kernel }
-    requires prefix_len { IsPrefixLen run.written chart.old }
+    requires written { run.written ≤ length chart.old }
     ensures good_2 { Good result.kernel }
-    ensures prefix_len_2 { IsPrefixLen result.written chart.new }
+    ensures written_2 { result.written ≤ length chart.new }
 {
     if record.name == words::FRESH {
         return Run {
@@ -133,68 +134,77 @@ fn after_line(run: Run, record: Record, chart: &mut [u8]) -> Run
 
 // Reads a line and writes it, with the reply if it is a command.
 fn turn(
+    rt: &(impl Files + Print),
+    input: &mut impl Read,
     run: Run,
     chart: &mut [u8],
     payloads: &mut [u8],
     tables: &mut [u8],
     guarded: &mut [u8],
     log: &mut [u8],
-) -> Run
+) -> io::Result<Run>
     requires good { Good run.kernel }
-    requires prefix_len { IsPrefixLen run.written chart.old }
-    ensures good_2 { Good result.kernel }
-    ensures prefix_len_2 { IsPrefixLen result.written chart.new }
+    requires written { run.written ≤ length chart.old }
+    ensures good_2 { IfOk result (λ next. Good next.kernel) }
+    ensures written_2 { IfOk result (λ next. next.written ≤ length chart.new) }
 {
-    let reading = words::read_line(true);
+    let reading = words::read_line(rt, input, true)?;
     if !reading.is_there {
-        return Run {
+        return Ok(Run {
             is_open: false,
             ..run
-        };
+        });
     }
     let line = reading.text;
     let record = reading.record;
     if record.is_wrong {
-        text::write(text::with_bytes(line, b" cannot be read"));
-        return run;
+        text::write(rt, text::with_bytes(rt, line, b" cannot be read")?)?;
+        return Ok(run);
     }
     if is_command(record) {
-        return answer_command(run, record, line, chart, payloads, tables, guarded, log);
+        return answer_command(
+            rt, run, record, line, chart, payloads, tables, guarded, log,
+        );
     }
-    text::write(line);
-    after_line(run, record, chart)
+    text::write(rt, line)?;
+    Ok(after_line(run, record, chart))
 }
 
-// A proved loop has to end, and nothing says that the input does: so the turns are counted down.
+// A proved loop has to end, and nothing says that the input does: so the turns are counted.
 fn play_on(
+    rt: &(impl Files + Print),
+    input: &mut impl Read,
     chart: &mut [u8],
     payloads: &mut [u8],
     tables: &mut [u8],
     guarded: &mut [u8],
     log: &mut [u8],
-) -> bool {
+) -> io::Result<bool> {
     let mut run = Run {
         kernel: kernel::fresh(),
         written: 0,
         is_open: true,
         is_followed: false,
     };
-    let mut turns = u64::MAX;
-    while turns > 0 && run.is_open {
-        run = turn(run, chart, payloads, tables, guarded, log);
-        turns -= 1;
+    for _ in 0..u64::MAX {
+        if !run.is_open {
+            break;
+        }
+        run = turn(rt, input, run, chart, payloads, tables, guarded, log)?;
     }
-    run.is_followed
+    Ok(run.is_followed)
 }
 
 // Plays a trace, and answers whether another follows.
-fn play_trace() -> bool {
+fn play_trace(rt: &(impl Files + Print), input: &mut impl Read) -> io::Result<bool> {
     let mut chart = [0u8; CHART_ROOM];
     let mut payloads = [0u8; PAYLOAD_AREA];
     let mut tables = [0u8; TABLE_AREA];
     let mut guarded = [0u8; GUARDED_AREA];
     let mut log = [0u8; LOG_AREA];
     play_on(
+        rt,
+        input,
         &mut chart,
         &mut payloads,
         &mut tables,
@@ -203,9 +213,12 @@ fn play_trace() -> bool {
     )
 }
 
-fn main() {
-    let mut turns = u64::MAX;
-    while turns > 0 && play_trace() {
-        turns -= 1;
+fn main(rt: HostRuntime) -> io::Result<()> {
+    let mut input = rt.reader();
+    for _ in 0..u64::MAX {
+        if !play_trace(&rt, &mut input)? {
+            break;
+        }
     }
+    Ok(())
 }

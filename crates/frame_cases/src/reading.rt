@@ -6,9 +6,8 @@
 ghost use Rattle.std.specs.Prelude.{◌<◌, ◌≤◌, length};
 
 use super::report;
-use check::same;
 use frame::reader::Reader;
-use std::num::wrapping_add_u64;
+use std::io;
 
 // How far a reader has come: how many bytes of a piece it has read, and how many its report has.
 #[derive(Clone, Copy)]
@@ -32,11 +31,9 @@ fn turn(progress: Progress, piece: &[u8], told: &mut [u8]) -> Progress
     ensures { (progress.at < result.at) × (result.at ≤ length piece.now) }
 {
     let at = progress.at;
-    let reader = progress.reader;
-    let fed = frame::reader::feed(reader, &piece[at..]);
-    let next = fed.reader;
+    let fed = frame::reader::feed(progress.reader, &piece[at..]);
     Progress {
-        reader: next,
+        reader: fed.reader,
         at: at + fed.read,
         told: report::put_frame(told, progress.told, fed),
     }
@@ -69,10 +66,8 @@ fn read_cut(stream: &[u8], cut: usize, told: &mut [u8]) -> usize
 // Reads a stream byte by byte, and answers how long the report is.
 fn read_bytes(stream: &[u8], told: &mut [u8]) -> usize {
     let mut read = beginning();
-    let mut i: usize = 0;
-    while i < stream.len() {
-        read = read_piece(read, &[stream[i]], told);
-        i += 1;
+    for byte in stream {
+        read = read_piece(read, &[*byte], told);
     }
     read.told
 }
@@ -83,34 +78,35 @@ fn cut_agrees(stream: &[u8], cut: usize, whole: &[u8]) -> u64
 {
     let mut told = [0u8; report::ROOM];
     let n = read_cut(stream, cut, &mut told);
-    same(front(&told, n), whole) as u64
+    (front(&told, n) == whole) as u64
 }
 
 // 1 if the stream, byte by byte, gives the report of the whole.
 fn bytes_agree(stream: &[u8], whole: &[u8]) -> u64 {
     let mut told = [0u8; report::ROOM];
     let n = read_bytes(stream, &mut told);
-    same(front(&told, n), whole) as u64
+    (front(&told, n) == whole) as u64
 }
 
 // How many ways of cutting give the report of the whole: into bytes, and at each place from the end down.
 fn count_cuts(stream: &[u8], whole: &[u8]) -> u64 {
     let mut cut = stream.len();
-    let mut count = wrapping_add_u64(bytes_agree(stream, whole), cut_agrees(stream, cut, whole));
+    let mut count = bytes_agree(stream, whole).wrapping_add(cut_agrees(stream, cut, whole));
     while 0 < cut {
         cut -= 1;
-        count = wrapping_add_u64(count, cut_agrees(stream, cut, whole));
+        count = count.wrapping_add(cut_agrees(stream, cut, whole));
     }
     count
 }
 
-fn write_lines(stream: &[u8], whole: &[u8]) {
-    report::write_frames(whole);
-    text::write(text::with_named(text::empty(), b"cuts ", count_cuts(stream, whole)));
+fn write_lines(rt: &impl Print, stream: &[u8], whole: &[u8]) -> io::Result<()> {
+    report::write_frames(rt, whole)?;
+    let cuts = count_cuts(stream, whole);
+    text::write(rt, text::with_named(rt, text::empty(), b"cuts ", cuts)?)
 }
 
-pub fn run(stream: &[u8]) {
+pub fn run(rt: &impl Print, stream: &[u8]) -> io::Result<()> {
     let mut told = [0u8; report::ROOM];
     let read = read_piece(beginning(), stream, &mut told);
-    write_lines(stream, front(&told, read.told));
+    write_lines(rt, stream, front(&told, read.told))
 }

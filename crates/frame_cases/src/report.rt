@@ -1,10 +1,11 @@
 // Reports: what a reader handed out, as bytes that can be compared. Of each frame its number, its record number, 1 for a gap, how
 // many data it has, and these.
-ghost use Rattle.std.specs.Prelude.{◌<◌, ◌≤◌, length};
+ghost use Rattle.std.specs.Prelude.{◌<◌, ◌≤◌, IfOk, length};
 ghost use Rattle.frame.specs.Wire.{most_data};
 
 use frame::MOST_BYTES;
 use frame::reader::{DATA, Fed};
+use std::io;
 use text::{wide, with_bytes, with_named};
 
 // A frame has no fewer bytes in the stream than here.
@@ -24,10 +25,8 @@ fn put(report: &mut [u8], n: usize, byte: u8) -> usize {
 
 fn put_all(report: &mut [u8], n: usize, bytes: &[u8]) -> usize {
     let mut next = n;
-    let mut i: usize = 0;
-    while i < bytes.len() {
-        next = put(report, next, bytes[i]);
-        i += 1;
+    for byte in bytes {
+        next = put(report, next, *byte);
     }
     next
 }
@@ -47,34 +46,30 @@ pub fn put_frame(report: &mut [u8], n: usize, fed: Fed) -> usize
     if !fed.complete {
         return n;
     }
-    let reader = fed.reader;
-    let bytes = reader.bytes;
     let head = [fed.number, fed.kind, fed.gap as u8, fed.size as u8];
     let next = put_all(report, n, &head);
-    put_data(report, next, bytes, fed.size)
+    put_data(report, next, fed.reader.bytes, fed.size)
 }
 
 // Writes the line of a report's first frame, and answers how many bytes that has there.
-fn write_frame(report: &[u8]) -> usize
+fn write_frame(rt: &impl Print, report: &[u8]) -> io::Result<usize>
     requires { 4 ≤ length report.now }
-    ensures { (0 < result) × (result ≤ length report.now) }
+    ensures { IfOk result (λ n. (0 < n) × (n ≤ length report.now)) }
 {
-    let numbered = with_named(text::empty(), b"frame ", wide(report[0]));
-    let named = with_named(numbered, b" record ", wide(report[1]));
-    let told = if report[2] == 0 {
-        with_bytes(named, b":")
-    } else {
-        with_bytes(named, b" gap:")
-    };
+    let numbered = with_named(rt, text::empty(), b"frame ", wide(report[0]))?;
+    let named = with_named(rt, numbered, b" record ", wide(report[1]))?;
+    let end: &[u8] = if report[2] == 0 { b":" } else { b" gap:" };
+    let told = with_bytes(rt, named, end)?;
     let data = &report[HEAD..];
-    let size = io::count(wide(report[3]) as isize, data);
-    text::write(text::with_list(told, &data[..size]));
-    HEAD + size
+    let size = data.len().min(report[3] as usize);
+    text::write(rt, text::with_list(rt, told, &data[..size])?)?;
+    Ok(HEAD + size)
 }
 
-pub fn write_frames(report: &[u8]) {
+pub fn write_frames(rt: &impl Print, report: &[u8]) -> io::Result<()> {
     let mut at: usize = 0;
     while at + HEAD <= report.len() {
-        at += write_frame(&report[at..]);
+        at += write_frame(rt, &report[at..])?;
     }
+    Ok(())
 }

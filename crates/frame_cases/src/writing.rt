@@ -4,6 +4,7 @@
 ghost use Rattle.std.specs.Prelude.{◌≤◌, length};
 
 use frame::writer::Written;
+use std::io;
 use text::{sum_of, wide, with_bytes, with_named};
 
 // What the area is filled with beforehand, to show which bytes the writer leaves alone.
@@ -12,30 +13,36 @@ const FILL: u8 = 170;
 const AREA_ROOM: usize = 400;
 
 // Tells of what was written to an area.
-fn tell(written: Written, area: &[u8])
+fn tell(rt: &impl Print, written: Written, area: &[u8]) -> io::Result<()>
     requires { written.length ≤ length area.now }
 {
     let sum = sum_of(area);
+    let length = written.length;
+    let next = wide(written.next);
     if !written.done {
-        let refused = with_named(text::empty(), b"refused next ", wide(written.next));
-        text::write(with_named(refused, b" sum ", sum));
-        return;
+        let refused = with_named(rt, text::empty(), b"refused next ", next)?;
+        return text::write(rt, with_named(rt, refused, b" sum ", sum)?);
     }
-    let length = io::count(written.length as isize, area);
-    let told = with_named(text::empty(), b"written ", length as u64);
-    let numbered = with_named(told, b" next ", wide(written.next));
-    let summed = with_bytes(with_named(numbered, b" sum ", sum), b":");
-    text::write(text::with_list(summed, &area[..length]));
+    let told = with_named(rt, text::empty(), b"written ", length as u64)?;
+    let numbered = with_named(rt, told, b" next ", next)?;
+    let summed = with_bytes(rt, with_named(rt, numbered, b" sum ", sum)?, b":")?;
+    text::write(rt, text::with_list(rt, summed, &area[..length])?)
 }
 
-fn write_and_tell(number: u8, kind: u8, data: &[u8], area: &mut [u8]) {
+fn write_and_tell(
+    rt: &impl Print,
+    number: u8,
+    kind: u8,
+    data: &[u8],
+    area: &mut [u8],
+) -> io::Result<()> {
     let written = frame::writer::write(number, kind, data, area);
-    tell(written, area);
+    tell(rt, written, area)
 }
 
 // The area is as much of an array as the case gives it room.
-pub fn run(number: u8, kind: u8, room: u16, data: &[u8]) {
+pub fn run(rt: &impl Print, number: u8, kind: u8, room: u16, data: &[u8]) -> io::Result<()> {
     let mut array = [FILL; AREA_ROOM];
-    let n = io::count(room as isize, &array);
-    write_and_tell(number, kind, data, &mut array[..n]);
+    let n = array.len().min(room as usize);
+    write_and_tell(rt, number, kind, data, &mut array[..n])
 }

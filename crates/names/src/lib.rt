@@ -1,8 +1,8 @@
 // The names of the commands, each once: from a name to its number, and back.
 #![tactic(auto)]
 
-use check::same;
 use numbers::command;
+use std::io;
 use text::{Line, with_bytes};
 
 // As many as the longest name has, UNSUBSCRIBE, and one more, so that a space ends every name.
@@ -45,20 +45,19 @@ fn name_of(number: u8) -> [u8; COLUMNS] {
 
 // The number of the command whose name this is, with spaces behind it; 0 if there is no such command.
 pub fn number_of(word: [u8; COLUMNS]) -> u8 {
-    let mut number = LAST;
-    while 0 < number && !same(&word, &name_of(number)) {
-        number -= 1;
+    for number in (1..=LAST).rev() {
+        if word == name_of(number) {
+            return number;
+        }
     }
-    number
+    0
 }
 
 // The name of a command with spaces behind it, in COLUMNS columns; of a number that no command has, that number.
-pub fn with_name(line: Line, number: u8) -> Line {
+pub fn with_name(rt: &impl Print, line: Line, number: u8) -> io::Result<Line> {
     if 0 < number && number <= LAST {
-        return with_bytes(line, &name_of(number));
+        return with_bytes(rt, line, &name_of(number));
     }
-    with_bytes(
-        text::with_byte_left(with_bytes(line, b"command "), number),
-        b" ",
-    )
+    let told = text::with_byte_left(rt, with_bytes(rt, line, b"command ")?, number)?;
+    with_bytes(rt, told, b" ")
 }

@@ -2,7 +2,9 @@
 #![tactic(auto)]
 
 use player::Replies;
+use std::io;
 
-fn main() {
-    player::play(player::ALL, player::HERE, Replies::Framed);
+fn main(rt: HostRuntime) -> io::Result<()> {
+    let mut input = rt.reader();
+    player::play(&rt, &mut input, player::ALL, player::HERE, Replies::Framed)
 }

@@ -11,6 +11,7 @@
 #![tactic(auto)]
 
 use numbers::{HANDLE, REPLY_BYTES, answer};
+use std::io;
 use text::{Line, wide, with_bytes};
 
 // An event that came from timer t has the block number 128 + t.
@@ -28,45 +29,45 @@ struct Handle {
     generation: u64,
 }
 
-fn with_item(line: Line, name: &[u8], number: u8) -> Line {
-    text::with_named(line, name, wide(number))
+fn with_item(rt: &impl Print, line: Line, name: &[u8], number: u8) -> io::Result<Line> {
+    text::with_named(rt, line, name, wide(number))
 }
 
 // The answers from ABSENT on: in a function of their own, since a check's time grows with the square of the arms.
-fn with_later_answer(line: Line, number: u8) -> Line {
+fn with_later_answer(rt: &impl Print, line: Line, number: u8) -> io::Result<Line> {
     match number {
-        answer::ABSENT => with_bytes(line, b"ABSENT"),
-        answer::TAKEN => with_bytes(line, b"TAKEN"),
-        answer::FULL => with_bytes(line, b"FULL"),
-        answer::DRY => with_bytes(line, b"DRY"),
-        answer::HOLDS => with_bytes(line, b"HOLDS"),
-        answer::INUSE => with_bytes(line, b"INUSE"),
-        answer::CHART => with_bytes(line, b"CHART"),
-        answer::TABLE => with_bytes(line, b"TABLE"),
-        _ => with_item(line, b"unknown answer ", number),
+        answer::ABSENT => with_bytes(rt, line, b"ABSENT"),
+        answer::TAKEN => with_bytes(rt, line, b"TAKEN"),
+        answer::FULL => with_bytes(rt, line, b"FULL"),
+        answer::DRY => with_bytes(rt, line, b"DRY"),
+        answer::HOLDS => with_bytes(rt, line, b"HOLDS"),
+        answer::INUSE => with_bytes(rt, line, b"INUSE"),
+        answer::CHART => with_bytes(rt, line, b"CHART"),
+        answer::TABLE => with_bytes(rt, line, b"TABLE"),
+        _ => with_item(rt, line, b"unknown answer ", number),
     }
 }
 
-fn with_answer(line: Line, number: u8) -> Line {
+fn with_answer(rt: &impl Print, line: Line, number: u8) -> io::Result<Line> {
     match number {
-        answer::DONE => with_bytes(line, b"DONE"),
-        answer::FORM => with_bytes(line, b"FORM"),
-        answer::AREA => with_bytes(line, b"AREA"),
-        answer::RANGE => with_bytes(line, b"RANGE"),
-        answer::BUSY => with_bytes(line, b"BUSY"),
-        answer::NOSTEP => with_bytes(line, b"NOSTEP"),
-        answer::IDLE => with_bytes(line, b"IDLE"),
-        answer::STALE => with_bytes(line, b"STALE"),
-        _ => with_later_answer(line, number),
+        answer::DONE => with_bytes(rt, line, b"DONE"),
+        answer::FORM => with_bytes(rt, line, b"FORM"),
+        answer::AREA => with_bytes(rt, line, b"AREA"),
+        answer::RANGE => with_bytes(rt, line, b"RANGE"),
+        answer::BUSY => with_bytes(rt, line, b"BUSY"),
+        answer::NOSTEP => with_bytes(rt, line, b"NOSTEP"),
+        answer::IDLE => with_bytes(rt, line, b"IDLE"),
+        answer::STALE => with_bytes(rt, line, b"STALE"),
+        _ => with_later_answer(rt, line, number),
     }
 }
 
-fn with_outcome(line: Line, outcome: u8) -> Line {
+fn with_outcome(rt: &impl Print, line: Line, outcome: u8) -> io::Result<Line> {
     match outcome {
-        0 => with_bytes(line, b"  ignored"),
-        1 => with_bytes(line, b"  internal"),
-        2 => with_bytes(line, b"  transition"),
-        _ => with_item(line, b"  outcome ", outcome),
+        0 => with_bytes(rt, line, b"  ignored"),
+        1 => with_bytes(rt, line, b"  internal"),
+        2 => with_bytes(rt, line, b"  transition"),
+        _ => with_item(rt, line, b"  outcome ", outcome),
     }
 }
 
@@ -84,59 +85,67 @@ fn is_zero(handle: Handle) -> bool {
     handle.block == 0 && handle.generation == 0
 }
 
-fn with_block(line: Line, name: &[u8], handle: Handle) -> Line {
-    text::with_named(with_item(line, name, handle.block), b" ", handle.generation)
+fn with_block(rt: &impl Print, line: Line, name: &[u8], handle: Handle) -> io::Result<Line> {
+    let told = with_item(rt, line, name, handle.block)?;
+    text::with_named(rt, told, b" ", handle.generation)
 }
 
-fn with_event(line: Line, event: Handle) -> Line {
+fn with_event(rt: &impl Print, line: Line, event: Handle) -> io::Result<Line> {
     if FIRST_TIMER <= event.block {
-        return with_item(line, b"  timer ", event.block - FIRST_TIMER);
+        return with_item(rt, line, b"  timer ", event.block - FIRST_TIMER);
     }
-    with_block(line, b"  event ", event)
+    with_block(rt, line, b"  event ", event)
 }
 
 // A handle that is no event's.
-fn with_handle(line: Line, handle: Handle) -> Line {
+fn with_handle(rt: &impl Print, line: Line, handle: Handle) -> io::Result<Line> {
     if is_zero(handle) {
-        return line;
+        return Ok(line);
     }
-    with_block(line, b"  handle ", handle)
+    with_block(rt, line, b"  handle ", handle)
 }
 
-fn with_values(line: Line, number: u8, first: u8, second: u8) -> Line {
+fn with_values(rt: &impl Print, line: Line, number: u8, first: u8, second: u8) -> io::Result<Line> {
     if number == answer::CHART {
-        return with_item(line, b"  class ", first);
+        return with_item(rt, line, b"  class ", first);
     }
     if number == answer::DONE || first != 0 || second != 0 {
-        return with_item(with_item(line, b"  values ", first), b" ", second);
+        let told = with_item(rt, line, b"  values ", first)?;
+        return with_item(rt, told, b" ", second);
     }
-    line
+    Ok(line)
 }
 
 // The count, what it counts, and as many of these as there can be.
-fn with_counted(line: Line, count: u8, name: &[u8], counted: &[u8]) -> Line {
+fn with_counted(
+    rt: &impl Print,
+    line: Line,
+    count: u8,
+    name: &[u8],
+    counted: &[u8],
+) -> io::Result<Line> {
     if count == 0 {
-        return line;
+        return Ok(line);
     }
-    let shown = io::count(count as isize, counted);
-    text::with_list(
-        with_bytes(with_item(line, b"  count ", count), name),
-        &counted[..shown],
-    )
+    let shown = counted.len().min(count as usize);
+    let named = with_bytes(rt, with_item(rt, line, b"  count ", count)?, name)?;
+    text::with_list(rt, named, &counted[..shown])
 }
 
 // What START and NEXT tell. START has no signal, and so no event.
-fn with_step(line: Line, reply: [u8; REPLY_BYTES]) -> Line {
+fn with_step(rt: &impl Print, line: Line, reply: [u8; REPLY_BYTES]) -> io::Result<Line> {
     let handle = handle_of(reply);
     let count = reply[3];
     let signal = reply[2] % 32;
-    let moved = with_outcome(with_item(line, b"  object ", reply[1]), reply[2] / 32);
+    let object = with_item(rt, line, b"  object ", reply[1])?;
+    let moved = with_outcome(rt, object, reply[2] / 32)?;
     let actions = &reply[COUNTED..HANDLE];
     if signal == 0 {
-        return with_handle(with_counted(moved, count, b"  actions", actions), handle);
+        let acted = with_counted(rt, moved, count, b"  actions", actions)?;
+        return with_handle(rt, acted, handle);
     }
-    let told = with_event(with_item(moved, b"  signal ", signal), handle);
-    with_counted(told, count, b"  actions", actions)
+    let told = with_event(rt, with_item(rt, moved, b"  signal ", signal)?, handle)?;
+    with_counted(rt, told, count, b"  actions", actions)
 }
 
 // Whether a reply that is done answers NEW: it alone has no values and yet a count, its pool's mark, or a handle. READ's count
@@ -146,17 +155,19 @@ fn is_to_new(count: u8, first: u8, second: u8, handle: Handle) -> bool {
 }
 
 // The line with a reply.
-pub fn in_words(line: Line, reply: [u8; REPLY_BYTES]) -> Line {
-    let answered = with_answer(line, reply[0]);
+pub fn in_words(rt: &impl Print, line: Line, reply: [u8; REPLY_BYTES]) -> io::Result<Line> {
+    let answered = with_answer(rt, line, reply[0])?;
     if reply[1] != 0 || reply[2] != 0 {
-        return with_step(answered, reply);
+        return with_step(rt, answered, reply);
     }
     let handle = handle_of(reply);
     let count = reply[3];
     if reply[0] == answer::DONE && is_to_new(count, reply[4], reply[5], handle) {
-        return with_item(with_event(answered, handle), b"  least free ", count);
+        let event = with_event(rt, answered, handle)?;
+        return with_item(rt, event, b"  least free ", count);
     }
-    let told = with_values(answered, reply[0], reply[4], reply[5]);
+    let told = with_values(rt, answered, reply[0], reply[4], reply[5])?;
     let bytes = &reply[COUNTED..HANDLE];
-    with_handle(with_counted(told, count, b"  bytes", bytes), handle)
+    let counted = with_counted(rt, told, count, b"  bytes", bytes)?;
+    with_handle(rt, counted, handle)
 }

@@ -4,8 +4,8 @@
 
 use numbers::{BLOCKS, LARGE, LARGE_BYTES};
 use pool::{Found, Pool};
-use std::num::wrapping_add_u64;
-use text::{with_bytes, with_named};
+use std::io;
+use text::{Line, with_bytes, with_named};
 
 // The lowest of the blocks for so many bytes, and so the one that is handed out as long as it can be.
 const BLOCK: usize = LARGE;
@@ -44,72 +44,80 @@ fn live_once(life: Life) -> Life {
     let after = gone.pool;
     Life {
         pool: after,
-        times: wrapping_add_u64(life.times, 1),
+        times: life.times.wrapping_add(1),
         is_over: false,
     }
 }
 
-fn tell_handle(p: Pool, generation: u32) {
+fn tell_handle(rt: &impl Print, p: Pool, generation: u32) -> io::Result<()> {
     let line = with_named(
+        rt,
         text::empty(),
         b"its handle of generation ",
         generation as u64,
-    );
+    )?;
     if pool::stale(p, BLOCK, generation) {
-        text::write(with_bytes(line, b" is stale"));
+        text::write(rt, with_bytes(rt, line, b" is stale")?)
     } else {
-        text::write(with_bytes(line, b" is not stale"));
+        text::write(rt, with_bytes(rt, line, b" is not stale")?)
     }
 }
 
-fn tell_block(p: Pool, times: u64) {
-    let named = with_named(text::empty(), b"block ", BLOCK as u64);
-    let counted = with_named(named, b" was handed out and freed ", times);
-    text::write(with_bytes(counted, b" times"));
+fn tell_block(rt: &impl Print, p: Pool, times: u64) -> io::Result<()> {
+    let named = with_named(rt, text::empty(), b"block ", BLOCK as u64)?;
+    let counted = with_named(rt, named, b" was handed out and freed ", times)?;
+    text::write(rt, with_bytes(rt, counted, b" times")?)?;
     let last = pool::generation(p, BLOCK);
-    text::write(with_named(text::empty(), b"its generation is ", last as u64));
-    tell_handle(p, 0);
-    tell_handle(p, last);
+    let told = with_named(rt, text::empty(), b"its generation is ", last as u64)?;
+    text::write(rt, told)?;
+    tell_handle(rt, p, 0)?;
+    tell_handle(rt, p, last)
+}
+
+fn with_found(rt: &impl Print, p: Pool, found: Found) -> io::Result<Line> {
+    match found {
+        Found::At(b) => {
+            let named = with_named(rt, text::empty(), b"next: block ", b as u64)?;
+            let generation = pool::generation(p, b) as u64;
+            with_named(rt, named, b" at generation ", generation)
+        }
+        Found::Nothing => with_bytes(rt, text::empty(), b"next: no block"),
+    }
 }
 
 // Takes another block of that size, and tells which, with the mark.
-fn take_another(p: Pool) -> Pool {
+fn take_another(rt: &impl Print, p: Pool) -> io::Result<Pool> {
     let taken = pool::take(p, LARGE_BYTES);
-    let after = taken.pool;
-    let found = taken.found;
-    let line = match found {
-        Found::At(b) => with_named(
-            with_named(text::empty(), b"next: block ", b as u64),
-            b" at generation ",
-            pool::generation(after, b) as u64,
-        ),
-        Found::Nothing => with_bytes(text::empty(), b"next: no block"),
-    };
-    text::write(with_named(line, b", least free ", taken.mark as u64));
-    after
+    let line = with_found(rt, taken.pool, taken.found)?;
+    text::write(
+        rt,
+        with_named(rt, line, b", least free ", taken.mark as u64)?,
+    )?;
+    Ok(taken.pool)
 }
 
 // Takes as many as there are blocks of that size: the last time there is none, since the retired block counts as taken.
-fn take_the_others(p: Pool) {
+fn take_the_others(rt: &impl Print, p: Pool) -> io::Result<()> {
     let mut left = p;
     for _ in LARGE..BLOCKS {
-        left = take_another(left);
+        left = take_another(rt, left)?;
     }
+    Ok(())
 }
 
-// A proved loop has to end. That this one does is tried here and not proved: so the turns are counted down.
-fn main() {
+// A proved loop has to end. That this one does is tried here and not proved: so the turns are counted.
+fn main(rt: HostRuntime) -> io::Result<()> {
     let mut life = Life {
         pool: pool::fresh(),
         times: 0,
         is_over: false,
     };
-    let mut turns = u64::MAX;
-    while turns > 0 && !life.is_over {
+    for _ in 0..u64::MAX {
+        if life.is_over {
+            break;
+        }
         life = live_once(life);
-        turns -= 1;
     }
-    let p = life.pool;
-    tell_block(p, life.times);
-    take_the_others(p);
+    tell_block(&rt, life.pool, life.times)?;
+    take_the_others(&rt, life.pool)
 }

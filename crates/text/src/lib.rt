@@ -1,10 +1,11 @@
 // A line of text, put together piece by piece and written by one call.
 #![tactic(auto)]
 
-ghost use Rattle.std.specs.Prelude.{◌≤◌};
-ghost use Rattle.io.specs.Counts.{IsPrefixLen};
+ghost use Rattle.std.specs.Prelude.{◌≤◌, length};
 
+use itoa::Buffer;
 use numbers::{HANDLE, REPLY_BYTES};
+use std::io;
 
 // As many as a byte can count: so the next byte of a line always has its place, and no contract has to say so.
 const LINE_BYTES: usize = 256;
@@ -24,39 +25,35 @@ pub fn empty() -> Line {
     }
 }
 
-fn with_byte(line: Line, byte: u8) -> Line {
+fn with_byte(rt: &impl Print, line: Line, byte: u8) -> io::Result<Line> {
     let mut longer = line;
     let at = line.n as usize;
     longer.text[at] = byte;
     if line.n < u8::MAX {
         longer.n = line.n + 1;
-        return longer;
+        return Ok(longer);
     }
-    let full = longer.text;
-    io::write_all(libc::STDOUT_FILENO, &full);
-    empty()
+    rt.write_all(&longer.text)?;
+    Ok(empty())
 }
 
-pub fn with_bytes(line: Line, bytes: &[u8]) -> Line {
+pub fn with_bytes(rt: &impl Print, line: Line, bytes: &[u8]) -> io::Result<Line> {
     let mut longer = line;
-    let mut i: usize = 0;
-    while i < bytes.len() {
-        longer = with_byte(longer, bytes[i]);
-        i += 1;
+    for byte in bytes {
+        longer = with_byte(rt, longer, *byte)?;
     }
-    longer
+    Ok(longer)
 }
 
 // The number in decimal.
-pub fn with_number(line: Line, number: u64) -> Line {
-    let mut digits = [0u8; 20];
-    let count = io::decimal(number, &mut digits);
-    with_bytes(line, &digits[..count])
+pub fn with_number(rt: &impl Print, line: Line, number: u64) -> io::Result<Line> {
+    let mut digits = Buffer::new();
+    with_bytes(rt, line, digits.format(number).as_bytes())
 }
 
 // The number behind its name.
-pub fn with_named(line: Line, name: &[u8], number: u64) -> Line {
-    with_number(with_bytes(line, name), number)
+pub fn with_named(rt: &impl Print, line: Line, name: &[u8], number: u64) -> io::Result<Line> {
+    with_number(rt, with_bytes(rt, line, name)?, number)
 }
 
 // A byte as a number. To pass an element asks no proof that it fits, where a cast of it would.
@@ -67,40 +64,38 @@ pub fn wide(byte: u8) -> u64
 }
 
 // The spaces that a byte in decimal leaves of three columns, which are enough for any.
-fn with_margin(line: Line, byte: u8) -> Line {
+fn with_margin(rt: &impl Print, line: Line, byte: u8) -> io::Result<Line> {
     if byte < 10 {
-        return with_bytes(line, b"  ");
+        return with_bytes(rt, line, b"  ");
     }
     if byte < 100 {
-        return with_bytes(line, b" ");
+        return with_bytes(rt, line, b" ");
     }
-    line
+    Ok(line)
 }
 
 // A byte in decimal, at the left of three columns.
-pub fn with_byte_left(line: Line, byte: u8) -> Line {
-    with_margin(with_number(line, wide(byte)), byte)
+pub fn with_byte_left(rt: &impl Print, line: Line, byte: u8) -> io::Result<Line> {
+    with_margin(rt, with_number(rt, line, wide(byte))?, byte)
 }
 
 // A byte in decimal, at the right of three columns.
-pub fn with_byte_right(line: Line, byte: u8) -> Line {
-    with_number(with_margin(line, byte), wide(byte))
+pub fn with_byte_right(rt: &impl Print, line: Line, byte: u8) -> io::Result<Line> {
+    with_number(rt, with_margin(rt, line, byte)?, wide(byte))
 }
 
 // The bytes in decimal, each after a space.
-pub fn with_list(line: Line, bytes: &[u8]) -> Line {
+pub fn with_list(rt: &impl Print, line: Line, bytes: &[u8]) -> io::Result<Line> {
     let mut longer = line;
-    let mut i: usize = 0;
-    while i < bytes.len() {
-        longer = with_number(with_byte(longer, b' '), wide(bytes[i]));
-        i += 1;
+    for byte in bytes {
+        longer = with_number(rt, with_byte(rt, longer, b' ')?, wide(*byte))?;
     }
-    longer
+    Ok(longer)
 }
 
 // How many bytes there are without the zeros at the end, but for the first so many, which are told in any case.
 fn told(bytes: &[u8], first: usize) -> usize
-    ensures { IsPrefixLen result bytes.now }
+    ensures { result ≤ length bytes.now }
 {
     let mut n = bytes.len();
     while first < n && bytes[n - 1] == 0 {
@@ -110,23 +105,24 @@ fn told(bytes: &[u8], first: usize) -> usize
 }
 
 // The bytes of a reply before its handle but for the zeros at their end, each after a space.
-fn with_front(line: Line, front: &[u8]) -> Line {
+fn with_front(rt: &impl Print, line: Line, front: &[u8]) -> io::Result<Line> {
     let n = told(front, 1);
-    with_list(line, &front[..n])
+    with_list(rt, line, &front[..n])
 }
 
 // The bytes of a handle but for the zeros at its end, behind a sign of their own. A handle of zeros is not told.
-fn with_handle(line: Line, handle: &[u8]) -> Line {
+fn with_handle(rt: &impl Print, line: Line, handle: &[u8]) -> io::Result<Line> {
     let n = told(handle, 0);
     if n == 0 {
-        return line;
+        return Ok(line);
     }
-    with_list(with_bytes(line, b" @"), &handle[..n])
+    with_list(rt, with_bytes(rt, line, b" @")?, &handle[..n])
 }
 
 // The bytes of a reply: `0 0 0 15 @ 32 1`.
-pub fn with_reply(line: Line, reply: [u8; REPLY_BYTES]) -> Line {
-    with_handle(with_front(line, &reply[0..HANDLE]), &reply[HANDLE..])
+pub fn with_reply(rt: &impl Print, line: Line, reply: [u8; REPLY_BYTES]) -> io::Result<Line> {
+    let front = with_front(rt, line, &reply[0..HANDLE])?;
+    with_handle(rt, front, &reply[HANDLE..])
 }
 
 // The sum of each byte times its place, counted from 1, modulo 2 to the 32: a number by which a line tells an area.
@@ -135,19 +131,16 @@ pub fn with_reply(line: Line, reply: [u8; REPLY_BYTES]) -> Line {
 pub fn sum_of(bytes: &[u8]) -> u64 {
     let mut from_here: u64 = 0;
     let mut sum: u64 = 0;
-    let mut i = bytes.len();
-    while 0 < i {
-        i -= 1;
-        from_here = std::num::wrapping_add_u64(from_here, wide(bytes[i]));
-        sum = std::num::wrapping_add_u64(sum, from_here);
+    for byte in bytes.iter().rev() {
+        from_here = from_here.wrapping_add(wide(*byte));
+        sum = sum.wrapping_add(from_here);
     }
     sum % 4294967296
 }
 
 // Writes what is left of the line and its end to standard output.
-pub fn write(line: Line) {
-    let ended = with_byte(line, b'\n');
-    let text = ended.text;
-    let n = io::count(ended.n as isize, &text);
-    io::write_all(libc::STDOUT_FILENO, &text[..n]);
+pub fn write(rt: &impl Print, line: Line) -> io::Result<()> {
+    let ended = with_byte(rt, line, b'\n')?;
+    let n = ended.n as usize;
+    rt.write_all(&ended.text[..n])
 }

@@ -4,25 +4,28 @@
 #![tactic(auto)]
 
 use player::Replies;
+use std::io;
+use std::io::Read;
+use std::rt::Files;
 
 // Plays the next trace, and answers whether there was one.
-fn play_next() -> bool {
+fn play_next(rt: &(impl Files + Print), input: &mut impl Read) -> io::Result<bool> {
     let mut header = [0u8; 3];
-    if !input::read_exactly(&mut header, 3) {
-        return false;
+    if !input::read_exactly(input, &mut header, 3)? {
+        return Ok(false);
     }
-    player::play(
-        input::low_byte_first(header[1], header[2]) as u64,
-        header[0],
-        Replies::Plain,
-    );
-    true
+    let most = input::low_byte_first(header[1], header[2]) as u64;
+    player::play(rt, input, most, header[0], Replies::Plain)?;
+    Ok(true)
 }
 
-// A proved loop has to end, and nothing says that the input does: so the turns are counted down.
-fn main() {
-    let mut turns = u64::MAX;
-    while turns > 0 && play_next() {
-        turns -= 1;
+// A proved loop has to end, and nothing says that the input does: so the turns are counted.
+fn main(rt: HostRuntime) -> io::Result<()> {
+    let mut input = rt.reader();
+    for _ in 0..u64::MAX {
+        if !play_next(&rt, &mut input)? {
+            break;
+        }
     }
+    Ok(())
 }

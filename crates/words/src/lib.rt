@@ -12,10 +12,11 @@
 //     FRESH                                   no record, but a mark: here a trace begins
 #![tactic(auto)]
 
-use check::same;
 use input::Letter;
 use names::COLUMNS;
 use numbers::{RECORD_BYTES, command};
+use std::io;
+use std::io::Read;
 use text::Line;
 
 const COMMAND_RECORD: u8 = 72;
@@ -133,7 +134,7 @@ fn with_letter(word: Word, letter: u8) -> Word {
 }
 
 fn named(other: u8, word: &[u8], name: &[u8], number: u8) -> u8 {
-    if same(word, name) { number } else { other }
+    if word == name { number } else { other }
 }
 
 // The number of a name that is no command's, 0 if there is no such name.
@@ -152,7 +153,7 @@ fn number_of(word: Word) -> u8 {
     if command != 0 {
         return command;
     }
-    let letters = io::count(word.letters as isize, &text);
+    let letters = COLUMNS.min(word.letters as usize);
     other_name(&text[..letters])
 }
 
@@ -217,11 +218,9 @@ fn with_byte(record: Record, byte: u8) -> Record {
 // The record with a number next, in so many bytes, low byte first. A number that does not fit makes it wrong.
 fn with_bytes(record: Record, width: usize, number: u32) -> Record {
     let mut longer = record;
-    let mut left = width;
     let mut rest = number;
-    while 0 < left {
+    for _ in 0..width {
         longer = with_byte(longer, (rest % 256) as u8);
-        left -= 1;
         rest /= 256;
     }
     if rest == 0 { longer } else { wrong(longer) }
@@ -294,27 +293,25 @@ fn word_ended(line: Reading) -> Reading {
     }
 }
 
-fn kept(is_kept: bool, text: Line, letter: u8) -> Line {
+fn kept(rt: &impl Print, is_kept: bool, text: Line, letter: u8) -> io::Result<Line> {
     if is_kept {
-        text::with_bytes(text, &[letter])
+        text::with_bytes(rt, text, &[letter])
     } else {
-        text
+        Ok(text)
     }
 }
 
 // The line with a letter more. What stands behind `=` is not kept.
-fn with(line: Reading, letter: u8) -> Reading {
+fn with(rt: &impl Print, line: Reading, letter: u8) -> io::Result<Reading> {
     if line.is_answer {
-        return line;
+        return Ok(line);
     }
-    let so_far = line.text;
-    let text = kept(line.is_kept, so_far, letter);
+    let text = kept(rt, line.is_kept, line.text, letter)?;
     let longer = Reading { text, ..line };
     if line.is_comment {
-        return longer;
+        return Ok(longer);
     }
-    let word = line.word;
-    match letter {
+    Ok(match letter {
         b'#' => Reading {
             is_comment: true,
             ..word_ended(longer)
@@ -325,42 +322,43 @@ fn with(line: Reading, letter: u8) -> Reading {
         },
         b' ' | b'\t' | b'\r' => word_ended(longer),
         _ => Reading {
-            word: with_letter(word, letter),
+            word: with_letter(line.word, letter),
             ..longer
         },
-    }
+    })
 }
 
 // Reads a letter, and ends the line where that is its end, or the input's.
-fn read_on(line: Reading) -> Reading {
-    match input::read_letter() {
-        Letter::End => Reading {
+fn read_on(rt: &impl Print, input: &mut impl Read, line: Reading) -> io::Result<Reading> {
+    match input::read_letter(input)? {
+        Letter::End => Ok(Reading {
             is_whole: true,
             ..line
-        },
+        }),
         Letter::Byte(letter) => {
             if letter == b'\n' {
-                return Reading {
+                return Ok(Reading {
                     is_there: true,
                     is_whole: true,
                     ..line
-                };
+                });
             }
-            Reading {
+            Ok(Reading {
                 is_there: true,
-                ..with(line, letter)
-            }
+                ..with(rt, line, letter)?
+            })
         }
     }
 }
 
 // The next line of the input. Its text is kept only for who writes it: the front of a long one is written before the whole is read.
-pub fn read_line(is_kept: bool) -> Reading {
+pub fn read_line(rt: &impl Print, input: &mut impl Read, is_kept: bool) -> io::Result<Reading> {
     let mut line = no_line(is_kept);
-    let mut turns = u64::MAX;
-    while turns > 0 && !line.is_whole {
-        line = read_on(line);
-        turns -= 1;
+    for _ in 0..u64::MAX {
+        if line.is_whole {
+            break;
+        }
+        line = read_on(rt, input, line)?;
     }
-    word_ended(line)
+    Ok(word_ended(line))
 }
