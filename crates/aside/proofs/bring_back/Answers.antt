@@ -9,9 +9,8 @@ use Rattle.aside.proofs.bring_back.Goals as goal
 
 pub take_front-e-requires : goal.take_front-e-requires
 take_front-e-requires c =
-    let s = c in
-    let k = s.args.k in
-    record { mail = sides_of k _ s.well_formed.0; q_in_bounds = (omega (arith, s.requires.q_lt_side_queues.0, side_rings k _ s.well_formed.0), omega (arith, s.requires.q_lt_side_queues.1, aside_is k s.args.q)) }
+    let k = c.args.k in
+    record { mail = sides_of k _ c.well_formed.0; q_in_bounds = (omega (arith, c.requires.q_lt_side_queues.0, side_rings k _ c.well_formed.0), omega (arith, c.requires.q_lt_side_queues.1, aside_is k c.args.q)) }
 
 pub slice_bounds-push_front-end-2 : goal.slice_bounds-push_front-end-2
 slice_bounds-push_front-end-2 c = sym (heads_length c.args.k _ c.well_formed.0)
@@ -21,9 +20,8 @@ slice_bounds-push_front-end-3 c = sym (rings c.args.k _ c.well_formed.0)
 
 pub push_front-requires : goal.push_front-requires
 push_front-requires c =
-    let s = c in
-    let k = s.args.k in
-    record { mail = mail_of k _ s.well_formed.0; q_in_bounds = (box_of_lem k _ s.well_formed.0 _ s.requires.le_p.0 s.requires.le_p.1, s.requires.le_p.2) }
+    let k = c.args.k in
+    record { mail = mail_of k _ c.well_formed.0; q_in_bounds = (box_of_lem k _ c.well_formed.0 _ c.requires.le_p.0 c.requires.le_p.1, c.requires.le_p.2) }
 
 pub returns : goal.returns
 unfolding state_of recalled

@@ -33,9 +33,8 @@ set_aside-requires c =
     (c.is_timer-timer.ensures ∙ ap is_timer c.hand_of.ensures)
     c.entries_in-n.ensures.0 in
     let may : let a = c.args in Deferrable (state_of a.k) a.q =
-        let s = c in
-    let a = s.args in
-    deferrable a.spoilt a.q (state_of a.k) (sym tested ∙ c.if-no-ne0.false) s.requires in
+    let a = c.args in
+    deferrable a.spoilt a.q (state_of a.k) (sym tested ∙ c.if-no-ne0.false) c.requires in
     let h = may in (h.side, omega (arith, h.free), h.block)
 
 pub overflow_cast-n : goal.overflow_cast-n
@@ -50,9 +49,8 @@ overflow_cast-n c =
     (c.is_timer-timer.ensures ∙ ap is_timer c.hand_of.ensures)
     c.entries_in-n.ensures.0 in
     let may : let a = c.args in Deferrable (state_of a.k) a.q =
-        let s = c in
-    let a = s.args in
-    deferrable a.spoilt a.q (state_of a.k) (sym tested ∙ c.if-no-ne0.false) s.requires in
+    let a = c.args in
+    deferrable a.spoilt a.q (state_of a.k) (sym tested ∙ c.if-no-ne0.false) c.requires in
     omega (arith, may.free, c.entries_in-n.ensures.0)
 
 pub returns : goal.returns

@@ -13,8 +13,7 @@ returns-then-no-ne0 c = λ z. refusal _ _ _ _ z _ c.flush_refusal-no.ensures c.i
 pub let_go_aside-requires : goal.let_go_aside-requires
 unfolding flush_tests
 let_go_aside-requires c =
-    let s = c in
-    (s.requires, flush-within s.args.spoilt s.args.q (sym c.flush_refusal-no.ensures ∙ c.if-no-ne0.false), c.entries_in-n.ensures.0)
+    (c.requires, flush-within c.args.spoilt c.args.q (sym c.flush_refusal-no.ensures ∙ c.if-no-ne0.false), c.entries_in-n.ensures.0)
 
 pub returns : goal.returns
 unfolding flush flush_tests answered

@@ -8,33 +8,28 @@ use Rattle.aside.proofs.let_go_aside.Goals as goal
 
 pub list_blocks-requires : goal.list_blocks-requires
 list_blocks-requires c =
-    let s = c in
-    let a = s.args in
+    let a = c.args in
     record {
-      mail = (sides_of a.k _ s.well_formed.0, refl);
-      q_in_bounds = (omega (arith, s.requires.1, side_rings a.k _ s.well_formed.0), s.requires.2 ∙ aside_is a.k a.q, omega (arith, s.requires.2, s.requires.0.aside.room a.q));
+      mail = (sides_of a.k _ c.well_formed.0, refl);
+      q_in_bounds = (omega (arith, c.requires.1, side_rings a.k _ c.well_formed.0), c.requires.2 ∙ aside_is a.k a.q, omega (arith, c.requires.2, c.requires.0.aside.room a.q));
     }
 
 -- among the kernel's fields the search does not reach this length
 pub slice_bounds-empty-end : goal.slice_bounds-empty-end
 slice_bounds-empty-end c =
-    let s = c in
-    search (rules, side_rings s.args.k _ s.well_formed.0)
+    search (rules, side_rings c.args.k _ c.well_formed.0)
 
 pub empty-requires : goal.empty-requires
 empty-requires c =
-    let s = c in
-    omega (arith, s.requires.1, side_rings s.args.k _ s.well_formed.0)
+    omega (arith, c.requires.1, side_rings c.args.k _ c.well_formed.0)
 
 pub slice_bounds-let_go_all-end : goal.slice_bounds-let_go_all-end
 slice_bounds-let_go_all-end c =
-    let s = c in
-    omega (arith, s.requires.2, s.requires.0.aside.room s.args.q, c.list_blocks.ensures.list_len)
+    omega (arith, c.requires.2, c.requires.0.aside.room c.args.q, c.list_blocks.ensures.list_len)
 
 pub returns : goal.returns
 unfolding state_of
 returns c =
-    let s = c in
-    let a = s.args in
-    rw (c.let_go_all-pool.ensures.result_value, c.let_go_all-pool.ensures.result_value_2, (c.empty.ensures a.k.side_places a.k.side_heads (sides_of a.k _ s.well_formed.0)).are)
-    (flushed-is (state_of a.k) a.q a.n _ (omega (arith, s.requires.0.store.cells-length)) c.list_blocks.ensures.list_after)
+    let a = c.args in
+    rw (c.let_go_all-pool.ensures.result_value, c.let_go_all-pool.ensures.result_value_2, (c.empty.ensures a.k.side_places a.k.side_heads (sides_of a.k _ c.well_formed.0)).are)
+    (flushed-is (state_of a.k) a.q a.n _ (omega (arith, c.requires.0.store.cells-length)) c.list_blocks.ensures.list_after)

@@ -20,10 +20,9 @@ returns-then-n-eq0 c = λ z.
 
 pub bring_back-requires : goal.bring_back-requires
 bring_back-requires c =
-    let s = c in
-    let a = s.args in
+    let a = c.args in
     let n = c.entries_in-n.ensures.0 in
-    let h = recallable a.k a.spoilt a.q a.p (sym c.recall_no-no.ensures ∙ c.if-no-ne0.false) s.requires (λ z. c.if-n-eq0.false (n ∙ z)) in
+    let h = recallable a.k a.spoilt a.q a.p (sym c.recall_no-no.ensures ∙ c.if-no-ne0.false) c.requires (λ z. c.if-n-eq0.false (n ∙ z)) in
     record { q_lt_side_queues = (h.side, omega (arith, n, c.if-n-eq0.false)); le_p = (h.low, h.high, h.free) }
 
 pub returns : goal.returns

@@ -9,11 +9,10 @@ slice_bounds-of_object-end-2 c = sym (rings c.args.k _ c.well_formed.0)
 
 pub returns : goal.returns
 returns c =
-    let s = c in
-    let a = s.args in
+    let a = c.args in
     c.recall_refusal.ensures
     ∙ recall_tests_lem a.k a.spoilt a.q a.p _ _ _ _
     c.of_object-depth.ensures.0
     c.of_object.ensures.0
-    s.requires
+    c.requires
     c.room_of-free.ensures

@@ -8,17 +8,15 @@ use Rattle.aside.proofs.set_aside.Goals as goal
 
 pub push_back-requires : goal.push_back-requires
 push_back-requires c =
-    let s = c in
-    let k = s.args.k in
-    record { mail = sides_of k _ s.well_formed.0; q_in_bounds = (omega (arith, s.requires.0, side_rings k _ s.well_formed.0), omega (arith, s.requires.1, aside_is k s.args.q)) }
+    let k = c.args.k in
+    record { mail = sides_of k _ c.well_formed.0; q_in_bounds = (omega (arith, c.requires.0, side_rings k _ c.well_formed.0), omega (arith, c.requires.1, aside_is k c.args.q)) }
 
 pub returns : goal.returns
 unfolding state_of
 returns c =
-    let s = c in
-    let k = s.args.k in
+    let k = c.args.k in
     rw (
-      set_aside_is _ k.hand s.args.q (state_of k) refl s.requires.2,
+      set_aside_is _ k.hand c.args.q (state_of k) refl c.requires.2,
       c.add-pool.ensures.result_value,
       c.add-pool.ensures.result_value_2,
       c.wide.ensures.0,

@@ -18,8 +18,7 @@ returns-then-most_flag-row c =
 
 pub returns-in-Plain : goal.returns-in-Plain
 returns-in-Plain c =
-    let from = c in
-    rw c.in-Plain.is (c.blank_from.ensures ∙ plain_from from.args.row.now from.args.k from.requires.1)
+    rw c.in-Plain.is (c.blank_from.ensures ∙ plain_from c.args.row.now c.args.k c.requires.1)
 
 pub returns-else-most_flag-row : goal.returns-else-most_flag-row
 returns-else-most_flag-row c =

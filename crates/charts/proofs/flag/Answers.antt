@@ -57,6 +57,5 @@ returns c =
     c.is_open.ensures
     c.of_object-started.ensures.0 in
     λ z.
-    let t = c in
     doing _ _ _ _ z _ tests-are c.if-no-ne0.false
     (rw (c.with_flag.ensures, c.done.ensures, ← c.flag_changes.ensures, c.one.ensures.0) refl)

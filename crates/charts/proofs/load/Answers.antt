@@ -61,7 +61,6 @@ returns-then-class-ne0 c =
     c.is_open.ensures
     c.slot_used.ensures in
     λ p l.
-    let d = c in
     let f = c.fill_slot-class.ensures in
     let bad = c.if-class-ne0.true in
     writing _ _ _ _ (areas p _ _ l) _ tests-are (areas p _ _ l) c.if-no-ne0.false
@@ -101,7 +100,6 @@ returns c =
     c.is_open.ensures
     c.slot_used.ensures in
     λ p l.
-    let d = c in
     let f = c.fill_slot-class.ensures in
     let good = c.if-class-ne0.false in
     writing _ _ _ _ (areas p _ _ l) _ tests-are (areas p _ _ l) c.if-no-ne0.false

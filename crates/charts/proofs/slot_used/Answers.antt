@@ -15,16 +15,14 @@ loop-n-init c = (search rules, λ s e f. refl)
 pub returns-then-uses : goal.returns-then-uses
 unfolding state_of
 returns-then-uses c =
-    let here = c in
     let s = state_of c.args.k in
-    sym (used-here s _ here.loop-n.n c.loop-n-test.true (sym c.uses.ensures ∙ c.if-uses.true)) ∙ here.loop-n.invariant.1 s refl refl
+    sym (used-here s _ c.loop-n.n c.loop-n-test.true (sym c.uses.ensures ∙ c.if-uses.true)) ∙ c.loop-n.invariant.1 s refl refl
 
 pub loop-n-preserved : goal.loop-n-preserved
 loop-n-preserved c = (
   search rules,
   λ s e f.
-      let here = c in
-      sym (used_below s _ here.loop-n.n c.loop-n-test.true (rw (e, f) (sym c.uses.ensures ∙ c.if-uses.false))) ∙ here.loop-n.invariant.1 s e f,
+      sym (used_below s _ c.loop-n.n c.loop-n-test.true (rw (e, f) (sym c.uses.ensures ∙ c.if-uses.false))) ∙ c.loop-n.invariant.1 s e f,
 )
 
 pub returns : goal.returns

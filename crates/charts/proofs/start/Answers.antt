@@ -15,8 +15,7 @@ use Rattle.charts.proofs.start.Goals as goal
 -- among the kernel's fields the search does not reach this length
 pub slice_bounds-of_object-end : goal.slice_bounds-of_object-end
 slice_bounds-of_object-end c =
-    let s = c in
-    search (rules, depths_length s.args.k _ s.well_formed.0)
+    search (rules, depths_length c.args.k _ c.well_formed.0)
 
 pub returns-then-no-ne0 : goal.returns-then-no-ne0
 unfolding start
@@ -157,6 +156,5 @@ returns c =
     c.of_object.ensures.0
     tested in
     λ x l.
-    let t = c in
     doing _ _ _ _ (areas x _ _ l) _ tests-are c.if-no-ne0.false
     (rw (c.started_at.ensures, c.ran.ensures, row_is) refl)

@@ -8,8 +8,7 @@ use Rattle.charts.proofs.started_at.Goals as goal
 
 pub lower_all-requires : goal.lower_all-requires
 lower_all-requires c =
-    let s = c in
-    (omega (arith, s.requires.1), flags_length s.args.k _ s.well_formed.0)
+    (omega (arith, c.requires.1), flags_length c.args.k _ c.well_formed.0)
 
 pub returns : goal.returns
 unfolding state_of started_at

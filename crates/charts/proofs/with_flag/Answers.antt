@@ -7,9 +7,8 @@ use Rattle.charts.proofs.with_flag.Goals as goal
 
 pub set-requires : goal.set-requires
 set-requires c =
-    let s = c in
-    let long = flags_length s.args.k _ s.well_formed.0 in
-    (omega (arith, s.requires.0), s.requires.1, s.requires.2, long)
+    let long = flags_length c.args.k _ c.well_formed.0 in
+    (omega (arith, c.requires.0), c.requires.1, c.requires.2, long)
 
 pub returns : goal.returns
 unfolding state_of flag_set

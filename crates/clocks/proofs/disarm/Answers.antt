@@ -23,8 +23,7 @@ unfolding disarm_tests
 disarm_timer-requires c =
     let tests-are : c.disarm_refusal-no.result ≡ lowest (disarm_tests c.args.spoilt c.args.t) =
         c.disarm_refusal-no.ensures in
-    let t = c in
-    disarm_allowed t.args.spoilt t.args.t (rw (← tests-are) c.if-no-ne0.false)
+    disarm_allowed c.args.spoilt c.args.t (rw (← tests-are) c.if-no-ne0.false)
 
 pub returns : goal.returns
 unfolding answered disarm disarm_tests state_of

@@ -16,8 +16,7 @@ returns-then-spoilt c = λ z. refusal _ _ 1 _ z _ (rw c.if-spoilt.true refl) (λ
 
 pub tick_all-ticks-requires : goal.tick_all-ticks-requires
 tick_all-ticks-requires c =
-    let s = c in
-    ready_of s.args.k (mail_of s.args.k _ s.well_formed.0) s.requires
+    ready_of c.args.k (mail_of c.args.k _ c.well_formed.0) c.requires
 
 pub returns : goal.returns
 unfolding tick lowest timing state_of

@@ -20,6 +20,5 @@ returns c =
     let tests-are : let a = c.args in
     c.handle_refusal-no.result ≡ lowest (drop_tests a.spoilt a.b a.generation (state_of a.k)) =
         c.handle_refusal-no.ensures ∙ rw (c.stale-stale.ensures, c.drop_new-gone.ensures.frees.answer) refl in
-    let s = c in
     λ z. doing _ _ _ _ z _ tests-are c.if-no-ne0.false
-    (rw (c.with_pool.ensures, s.drop_new-gone.ensures.frees.row, s.drop_new-gone.ensures.pool_value, c.done.ensures) refl)
+    (rw (c.with_pool.ensures, c.drop_new-gone.ensures.frees.row, c.drop_new-gone.ensures.pool_value, c.done.ensures) refl)

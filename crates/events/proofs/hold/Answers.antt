@@ -43,6 +43,5 @@ returns c =
     let tests-are : let a = c.args in
     c.handle_refusal-no.result ≡ lowest (hold_tests a.spoilt a.b a.generation (state_of a.k)) =
         c.handle_refusal-no.ensures ∙ rw (c.stale-stale.ensures, c.byte_at-n.ensures) refl in
-    let s = c in
     λ z. doing _ _ _ _ z _ tests-are c.if-no-ne0.false
-    (rw (c.with_holds.ensures, c.add.ensures.result_value, c.add.ensures.result_value_2, c.done.ensures, s.byte_at-n.ensures) refl)
+    (rw (c.with_holds.ensures, c.add.ensures.result_value, c.add.ensures.result_value_2, c.done.ensures, c.byte_at-n.ensures) refl)

@@ -14,39 +14,34 @@ returns-then-no-ne0 c = λ z. refusal _ _ _ _ z _ c.post_no-no.ensures c.if-no-n
 pub post_back-requires : goal.post_back-requires
 post_back-requires c =
     let may : let a = c.args in Postable a.k a.b a.p =
-        let s = c in
-    let a = s.args in
-    postable a.k a.spoilt a.b a.generation a.p a.margin (sym c.post_no-no.ensures ∙ c.if-no-ne0.false) s.requires in
+    let a = c.args in
+    postable a.k a.spoilt a.b a.generation a.p a.margin (sym c.post_no-no.ensures ∙ c.if-no-ne0.false) c.requires in
     let h = may in (h.block, h.low, h.high, h.free)
 
 pub overflow_sub-p : goal.overflow_sub-p
 overflow_sub-p c =
     let may : let a = c.args in Postable a.k a.b a.p =
-        let s = c in
-    let a = s.args in
-    postable a.k a.spoilt a.b a.generation a.p a.margin (sym c.post_no-no.ensures ∙ c.if-no-ne0.false) s.requires in
+    let a = c.args in
+    postable a.k a.spoilt a.b a.generation a.p a.margin (sym c.post_no-no.ensures ∙ c.if-no-ne0.false) c.requires in
     may.low
 
 pub bounds-counts-p : goal.bounds-counts-p
 bounds-counts-p c =
     let may : let a = c.args in Postable a.k a.b a.p =
-        let s = c in
-    let a = s.args in
-    postable a.k a.spoilt a.b a.generation a.p a.margin (sym c.post_no-no.ensures ∙ c.if-no-ne0.false) s.requires in
+    let a = c.args in
+    postable a.k a.spoilt a.b a.generation a.p a.margin (sym c.post_no-no.ensures ∙ c.if-no-ne0.false) c.requires in
     let h = may in omega (arith, h.high)
 
 pub overflow_add-counts : goal.overflow_add-counts
 overflow_add-counts c =
     let may : let a = c.args in Postable a.k a.b a.p =
-        let s = c in
-    let a = s.args in
-    postable a.k a.spoilt a.b a.generation a.p a.margin (sym c.post_no-no.ensures ∙ c.if-no-ne0.false) s.requires in
+    let a = c.args in
+    postable a.k a.spoilt a.b a.generation a.p a.margin (sym c.post_no-no.ensures ∙ c.if-no-ne0.false) c.requires in
     omega (arith, may.free)
 
 pub returns : goal.returns
 unfolding post answered
 returns c =
-    let s = c in
-    let a = s.args in
+    let a = c.args in
     λ z. doing _ _ _ _ z _ c.post_no-no.ensures c.if-no-ne0.false
     (rw (c.post_back.ensures, c.done.ensures, queued-is a.k a.p) refl)

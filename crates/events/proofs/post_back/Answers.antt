@@ -14,9 +14,8 @@ slice_bounds-push_back-end-3 c = sym (rings c.args.k _ c.well_formed.0)
 
 pub push_back-requires : goal.push_back-requires
 push_back-requires c =
-    let s = c in
-    let k = s.args.k in
-    record { mail = mail_of k _ s.well_formed.0; q_in_bounds = (box_of_lem k _ s.well_formed.0 _ s.requires.1 s.requires.2, s.requires.3) }
+    let k = c.args.k in
+    record { mail = mail_of k _ c.well_formed.0; q_in_bounds = (box_of_lem k _ c.well_formed.0 _ c.requires.1 c.requires.2, c.requires.3) }
 
 pub returns : goal.returns
 unfolding state_of posted entry_of

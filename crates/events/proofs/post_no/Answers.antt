@@ -9,8 +9,7 @@ slice_bounds-of_object-end-2 c = sym (rings c.args.k _ c.well_formed.0)
 
 pub returns : goal.returns
 returns c =
-    let s = c in
-    let a = s.args in
+    let a = c.args in
     c.post_refusal.ensures
     ∙ post_tests_lem a.k a.spoilt a.b a.generation a.p a.margin _ _ _ _ c.stale-stale.ensures
     c.of_object-depth.ensures.0

@@ -8,19 +8,17 @@ use Rattle.events.proofs.publish_done.Goals as goal
 
 pub post_to_all-n-requires : goal.post_to_all-n-requires
 post_to_all-n-requires c =
-    let s = c in
-    let m = mail_of s.args.k _ s.well_formed.0 in
-    record { mail = m; b_lt_blocks = (s.requires.b_lt_blocks.0, s.requires.b_lt_blocks.1, have_places s.args.k _ s.requires.objects_value.0 s.requires.objects_value.1) }
+    let m = mail_of c.args.k _ c.well_formed.0 in
+    record { mail = m; b_lt_blocks = (c.requires.b_lt_blocks.0, c.requires.b_lt_blocks.1, have_places c.args.k _ c.requires.objects_value.0 c.requires.objects_value.1) }
 
 pub returns-then-n-eq0 : goal.returns-then-n-eq0
 unfolding answered state_of
 returns-then-n-eq0 c =
-    let s = c in
-    let a = s.args in
+    let a = c.args in
     let gone = c.drop_new-gone.ensures in
     λ z. rw (
-      ← s.post_to_all-n.ensures.value (state_of a.k) refl,
-      done_none a.b (state_of a.k) z _ s.if-n-eq0.true,
+      ← c.post_to_all-n.ensures.value (state_of a.k) refl,
+      done_none a.b (state_of a.k) z _ c.if-n-eq0.true,
       c.with_pool.ensures,
       gone.frees.row,
       gone.pool_value,
@@ -32,15 +30,13 @@ returns-then-n-eq0 c =
 pub returns : goal.returns
 unfolding answered state_of
 returns c =
-    let s = c in
-    let start = s in
-    let a = start.args in
-    let posts = s.post_to_all-n.ensures in
+    let a = c.args in
+    let posts = c.post_to_all-n.ensures in
     λ z. rw (
       ← posts.value (state_of a.k) refl,
-      done_some a.b (state_of a.k) z _ s.if-n-eq0.false,
+      done_some a.b (state_of a.k) z _ c.if-n-eq0.false,
       c.add_some-pool.ensures.result_value,
       c.add_some-pool.ensures.result_value_2,
       c.done-2.ensures,
-      ← start.requires.b_lt_blocks.2,
-    ) (ap (λ t. answer t (done s.post_to_all-n.result 0) z) (posts.result_after (state_of a.k) refl))
+      ← c.requires.b_lt_blocks.2,
+    ) (ap (λ t. answer t (done c.post_to_all-n.result 0) z) (posts.result_after (state_of a.k) refl))

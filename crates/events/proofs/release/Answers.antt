@@ -43,7 +43,6 @@ returns c =
     let tests-are : let a = c.args in
     c.handle_refusal-no.result ≡ lowest (release_tests a.spoilt a.b a.generation (state_of a.k)) =
         c.handle_refusal-no.ensures ∙ rw (c.stale-stale.ensures, c.byte_at-n.ensures) refl in
-    let s = c in
     let gone = c.let_go-gone.ensures in
     λ z. doing _ _ _ _ z _ tests-are c.if-no-ne0.false
-    (rw (c.with_holds.ensures, gone.frees.row, gone.pool_value, c.done.ensures, c.one.ensures.0, gone.frees.answer, s.byte_at-n.ensures) refl)
+    (rw (c.with_holds.ensures, gone.frees.row, gone.pool_value, c.done.ensures, c.one.ensures.0, gone.frees.answer, c.byte_at-n.ensures) refl)

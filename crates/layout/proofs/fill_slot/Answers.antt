@@ -15,33 +15,31 @@ use Rattle.layout.proofs.fill_slot.Goals as goal
 pub returns-then-q-eq-GUARDED_SLOT : goal.returns-then-q-eq-GUARDED_SLOT
 unfolding edition_of filled
 returns-then-q-eq-GUARDED_SLOT c =
-    let s = c in
     let f = c.chart_flatten_guarded.ensures in
     let here = c.if-q-eq-GUARDED_SLOT.true in
-    let d = s.args.chart.now in
-    let t = s.args.guarded.now in
-    let long = s.requires.2 here in
+    let d = c.args.chart.now in
+    let t = c.args.guarded.now in
+    let long = c.requires.2 here in
     let class = f.0 ∙ table_class Guarded d t long in
-    rw (eq-eqb s.args.q guarded_slot here) record { value = class; guarded_after = λ e. rw (f.1, table_filled Guarded d t long (sym class ∙ e)) refl; guarded_unchanged = λ ne. rw (f.1, table_left Guarded d t long (λ e. ne (class ∙ e))) refl }
+    rw (eq-eqb c.args.q guarded_slot here) record { value = class; guarded_after = λ e. rw (f.1, table_filled Guarded d t long (sym class ∙ e)) refl; guarded_unchanged = λ ne. rw (f.1, table_left Guarded d t long (λ e. ne (class ∙ e))) refl }
 
 pub returns : goal.returns
 unfolding edition_of filled
 returns c =
-    let s = c in
     let f = c.chart_flatten.ensures in
     let other = c.if-q-eq-GUARDED_SLOT.false in
-    let q = s.args.q in
+    let q = c.args.q in
     let at = slot_size Plain * q in
     let n = at + slot_size Plain - at in
     let cut : n ≡ slot_size Plain = omega arith in
-    let plain : q < plain_slots = omega (arith, s.requires.0, other) in
-    let d = s.args.chart.now in
-    let l = s.args.tables.now in
+    let plain : q < plain_slots = omega (arith, c.requires.0, other) in
+    let d = c.args.chart.now in
+    let l = c.args.tables.now in
     let t = take n (drop at l) in
-    let long = slot_long q at n l plain s.requires.1 refl cut in
+    let long = slot_long q at n l plain c.requires.1 refl cut in
     let class = f.0 ∙ table_class Plain d t long in
     rw (ne_eqb q guarded_slot other) record { value = class; guarded_after = λ e.
             let full = f.1 ∙ table_filled Plain d t long (sym class ∙ e) in
-            rw full (ap (λ x. record { plain = x; guarded = s.args.guarded.now }) (slot-over q at n l plain s.requires.1 refl cut _ (slot_size_lem Plain d))); guarded_unchanged = λ ne.
+            rw full (ap (λ x. record { plain = x; guarded = c.args.guarded.now }) (slot-over q at n l plain c.requires.1 refl cut _ (slot_size_lem Plain d))); guarded_unchanged = λ ne.
             let same = f.1 ∙ table_left Plain d t long (λ e. ne (class ∙ e)) in
-            rw same (ap (λ x. record { plain = x; guarded = s.args.guarded.now }) (slot-left q at n l plain s.requires.1 refl cut)) }
+            rw same (ap (λ x. record { plain = x; guarded = c.args.guarded.now }) (slot-left q at n l plain c.requires.1 refl cut)) }

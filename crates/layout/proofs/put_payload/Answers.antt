@@ -9,13 +9,11 @@ use Rattle.layout.proofs.put_payload.Goals as goal
 
 pub slice_bounds-fill-end : goal.slice_bounds-fill-end
 slice_bounds-fill-end c =
-    let s = c in
-    omega (arith, place_end s.args.b s.requires.0)
+    omega (arith, place_end c.args.b c.requires.0)
 
 pub returns : goal.returns
 returns c =
-    let s = c in
     let at = c.place_of-at in
     let cap = c.capacity_of in
-    let n : at.result + cap.result - at.result ≡ capacity s.args.b = omega (arith, cap.ensures.0) in
-    put-over s.args.b at.result (at.result + cap.result - at.result) s.args.payloads.now s.args.payload.now _ s.requires.0 s.requires.1 at.ensures.0 n c.fill.ensures
+    let n : at.result + cap.result - at.result ≡ capacity c.args.b = omega (arith, cap.ensures.0) in
+    put-over c.args.b at.result (at.result + cap.result - at.result) c.args.payloads.now c.args.payload.now _ c.requires.0 c.requires.1 at.ensures.0 n c.fill.ensures

@@ -4,5 +4,4 @@ use Rattle.mail.proofs.front.Goals as goal
 
 pub returns : goal.returns
 returns c =
-    let start = c in
-    rw (c.place.ensures, c.wide.ensures.0) (first_entry _ _ _ _ start.requires.q_in_bounds.0 start.requires.q_in_bounds.1)
+    rw (c.place.ensures, c.wide.ensures.0) (first_entry _ _ _ _ c.requires.q_in_bounds.0 c.requires.q_in_bounds.1)

@@ -4,5 +4,4 @@ use Rattle.mail.proofs.leave.Goals as goal
 
 pub returns : goal.returns
 returns c =
-    let start = c in
-    λ places m. rw (c.wide-h.ensures.0, c.wide.ensures.0) (took_first_lem places _ _ _ start.requires.0 m start.args.n)
+    λ places m. rw (c.wide-h.ensures.0, c.wide.ensures.0) (took_first_lem places _ _ _ c.requires.0 m c.args.n)

@@ -5,6 +5,5 @@ use Rattle.mail.proofs.push_front.Goals as goal
 
 pub returns : goal.returns
 returns c =
-    let start = c in
     rw (c.place.ensures, c.wide.ensures.0)
-    record { holds = pushed_front _ _ _ _ start.requires.q_in_bounds.0 start.requires.mail start.args.e start.requires.q_in_bounds.1; counts_after = refl }
+    record { holds = pushed_front _ _ _ _ c.requires.q_in_bounds.0 c.requires.mail c.args.e c.requires.q_in_bounds.1; counts_after = refl }

@@ -42,9 +42,8 @@ new_in-requires c =
         c.wide-n.ensures.0 in
     let allowed : c.new_refusal-no.result ≡ 0 → (b < blocks) × (c.args.size ≤ most_bytes) × (length c.args.payloads.now ≡ payload_bytes) =
         λ z. found_allowed (state_of c.args.k) c.args.spoilt c.args.payloads.now _ _ _ _ c.wide-in-At.ensures.0 is-size b is_found (sym c.new_refusal-no.ensures ∙ z) in
-    let d = c in
     let h = allowed c.if-no-ne0.false in
-    let take = d.take-taken.ensures in
+    let take = c.take-taken.ensures in
     record { b_lt_blocks = (h.0, omega (arith, h.1, c.requires), h.2, taken-row _ _ _ _ is_found take.row); pool_value = (taken-marks _ _ _ _ _ _ is_found is-size take.marks, rw (← is-size) take.mark) }
 
 -- No block is found.
@@ -76,6 +75,5 @@ returns-else-no-ne0 c =
     let size-found : found (state_of c.args.k).cells c.args.size ≡ At b =
         found_size (state_of c.args.k) c.args.spoilt c.args.payloads.now _ _ _ _ c.wide-in-At.ensures.0 is-size b is_found in
     λ t u l.
-    let d = c in
     writing _ _ _ _ (areas c.args.payloads.now t u l) _ tests-are (areas _ t u l) c.if-no-ne0.false
     (rw size-found (c.new_in.ensures t u l))

@@ -18,9 +18,8 @@ returns-then-has c = record { result_value = changed_not _ _ _ _ (more_by _) c.i
 pub returns-then-held-ge-MOST : goal.returns-then-held-ge-MOST
 unfolding cells marks
 returns-then-held-ge-MOST c =
-    let used = c in
     let most = more_most _ _ c.if-held-ge-MOST.true in
-    record { result_value = changed_not _ _ _ _ (more_by _) used.if-b-ge-BLOCKS.false used.has.ensures used.if-has.false (more_still _ most _); result_value_2 = refl }
+    record { result_value = changed_not _ _ _ _ (more_by _) c.if-b-ge-BLOCKS.false c.has.ensures c.if-has.false (more_still _ most _); result_value_2 = refl }
 
 pub overflow_cast-q : goal.overflow_cast-q
 overflow_cast-q c = omega (arith, c.least.ensures)
@@ -28,5 +27,5 @@ overflow_cast-q c = omega (arith, c.least.ensures)
 pub returns : goal.returns
 unfolding cells marks
 returns c =
-    let used = c in record { result_value = stored-count _ _ _ _ (more_by _) used.if-b-ge-BLOCKS.false used.has.ensures used.if-has.false _ (search rules)
+    record { result_value = stored-count _ _ _ _ (more_by _) c.if-b-ge-BLOCKS.false c.has.ensures c.if-has.false _ (search rules)
           (rw (c.least.ensures, c.wide.ensures.0) (more_some _ _ c.if-held-ge-MOST.false _)); result_value_2 = refl }

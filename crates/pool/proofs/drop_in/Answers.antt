@@ -13,24 +13,17 @@ returns-then-b-ge-BLOCKS c = record { frees = frees_out _ _ _ _ dropped is_new r
 pub returns-then-has : goal.returns-then-has
 unfolding dropped is_new cell_of
 returns-then-has c =
-    let entry = c in
-    record { frees = frees_not _ _ _ _ dropped is_new entry.if-b-ge-BLOCKS.false c.has.ensures c.if-has.true (refl, refl); sized = entry.requires }
+    record { frees = frees_not _ _ _ _ dropped is_new c.if-b-ge-BLOCKS.false c.has.ensures c.if-has.true (refl, refl); sized = c.requires }
 
 pub returns-then-counts-b-ne-NEW : goal.returns-then-counts-b-ne-NEW
 returns-then-counts-b-ne-NEW c =
-    let used = c in
-    let entry = used in
-    record { frees = frees_not _ _ _ _ dropped is_new entry.if-b-ge-BLOCKS.false used.has.ensures used.if-has.false (dropped_none _ _ c.if-counts-b-ne-NEW.true); sized = entry.requires }
+    record { frees = frees_not _ _ _ _ dropped is_new c.if-b-ge-BLOCKS.false c.has.ensures c.if-has.false (dropped_none _ _ c.if-counts-b-ne-NEW.true); sized = c.requires }
 
 pub go_back-requires : goal.go_back-requires
 go_back-requires c =
-    let used = c in
-    let entry = used in
-    (entry.requires, entry.if-b-ge-BLOCKS.false, sym used.has.ensures ∙ used.if-has.false)
+    (c.requires, c.if-b-ge-BLOCKS.false, sym c.has.ensures ∙ c.if-has.false)
 
 pub returns : goal.returns
 returns c =
-    let new = c in
-    let used = new in
-    let went = c.go_back.ensures in record { frees = frees_it _ _ _ _ dropped is_new used.if-b-ge-BLOCKS.false used.has.ensures used.if-has.false _ went.free_after
-          (dropped-new _ _ new.if-counts-b-ne-NEW.false); sized = went.sized }
+    let went = c.go_back.ensures in record { frees = frees_it _ _ _ _ dropped is_new c.if-b-ge-BLOCKS.false c.has.ensures c.if-has.false _ went.free_after
+          (dropped-new _ _ c.if-counts-b-ne-NEW.false); sized = went.sized }

@@ -6,9 +6,8 @@ use Rattle.pool.proofs.go_back.Goals as goal
 
 pub returns-then-set_back : goal.returns-then-set_back
 returns-then-set_back c =
-    let free = c in
-    let went = free.set_back.ensures in
-    record { free_after = ap (row_of _ _) (c.with.ensures ∙ freed_now _ _ free.if-set_back.true) ∙ went.by_index _ free.requires.2; sized = went.sized }
+    let went = c.set_back.ensures in
+    record { free_after = ap (row_of _ _) (c.with.ensures ∙ freed_now _ _ c.if-set_back.true) ∙ went.by_index _ c.requires.2; sized = went.sized }
 
 pub returns-else-set_back : goal.returns-else-set_back
 returns-else-set_back c =

@@ -21,5 +21,4 @@ loop-i-preserved c =
 pub returns : goal.returns
 unfolding cells
 returns c =
-    let end = c in
-    record { result_value = c.with_parts.ensures.result_value ∙ sym (gone_end _ _ _ end.loop-i-test.false) ∙ end.loop-i.invariant.1; result_value_2 = c.with_parts.ensures.result_value_2 }
+    record { result_value = c.with_parts.ensures.result_value ∙ sym (gone_end _ _ _ c.loop-i-test.false) ∙ c.loop-i.invariant.1; result_value_2 = c.with_parts.ensures.result_value_2 }

@@ -14,37 +14,26 @@ returns-then-b-ge-BLOCKS c = record { frees = frees_out _ _ _ _ fewer at_last re
 pub returns-then-has : goal.returns-then-has
 unfolding fewer at_last cell_of
 returns-then-has c =
-    let entry = c in
-    record { frees = frees_not _ _ _ _ fewer at_last entry.if-b-ge-BLOCKS.false c.has.ensures c.if-has.true (refl, refl); sized = entry.requires }
+    record { frees = frees_not _ _ _ _ fewer at_last c.if-b-ge-BLOCKS.false c.has.ensures c.if-has.true (refl, refl); sized = c.requires }
 
 pub returns-then-n-eq-NEW : goal.returns-then-n-eq-NEW
 returns-then-n-eq-NEW c =
-    let used = c in
-    let entry = used in
-    record { frees = frees_not _ _ _ _ fewer at_last entry.if-b-ge-BLOCKS.false used.has.ensures used.if-has.false (fewer_none _ _ c.if-n-eq-NEW.true); sized = entry.requires }
+    record { frees = frees_not _ _ _ _ fewer at_last c.if-b-ge-BLOCKS.false c.has.ensures c.if-has.false (fewer_none _ _ c.if-n-eq-NEW.true); sized = c.requires }
 
 pub go_back-requires : goal.go_back-requires
 go_back-requires c =
-    let used = c in
-    let entry = used in
-    (entry.requires, entry.if-b-ge-BLOCKS.false, sym used.has.ensures ∙ used.if-has.false)
+    (c.requires, c.if-b-ge-BLOCKS.false, sym c.has.ensures ∙ c.if-has.false)
 
 pub returns-then-n-eq-LAST : goal.returns-then-n-eq-LAST
 returns-then-n-eq-LAST c =
-    let last = c in
-    let used = last in
-    let went = c.go_back.ensures in record { frees = frees_it _ _ _ _ fewer at_last used.if-b-ge-BLOCKS.false used.has.ensures used.if-has.false _ went.free_after
-          (fewer-last _ _ last.if-n-eq-LAST.true); sized = went.sized }
+    let went = c.go_back.ensures in record { frees = frees_it _ _ _ _ fewer at_last c.if-b-ge-BLOCKS.false c.has.ensures c.if-has.false _ went.free_after
+          (fewer-last _ _ c.if-n-eq-LAST.true); sized = went.sized }
 
 pub returns-then-n-gt-MOST : goal.returns-then-n-gt-MOST
 returns-then-n-gt-MOST c =
-    let used = c in
-    let entry = used in
-    record { frees = frees_not _ _ _ _ fewer at_last entry.if-b-ge-BLOCKS.false used.has.ensures used.if-has.false (fewer_retired _ _ c.if-n-gt-MOST.true); sized = entry.requires }
+    record { frees = frees_not _ _ _ _ fewer at_last c.if-b-ge-BLOCKS.false c.has.ensures c.if-has.false (fewer_retired _ _ c.if-n-gt-MOST.true); sized = c.requires }
 
 pub returns : goal.returns
 returns c =
-    let used = c in
-    let entry = used in
-    let s = entry.requires in record { frees = frees-count _ _ _ _ fewer at_last entry.if-b-ge-BLOCKS.false used.has.ensures used.if-has.false _ s.counts_length
+    let s = c.requires in record { frees = frees-count _ _ _ _ fewer at_last c.if-b-ge-BLOCKS.false c.has.ensures c.if-has.false _ s.counts_length
           (fewer-one _ _ c.if-n-eq-NEW.false c.if-n-eq-LAST.false c.if-n-gt-MOST.false); sized = record { gens_length = s.gens_length; counts_length = simp length-set s.counts_length } }

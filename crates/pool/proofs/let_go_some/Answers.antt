@@ -22,28 +22,22 @@ returns-then-has c =
 pub returns-then-held-gt-MOST : goal.returns-then-held-gt-MOST
 unfolding freed_if
 returns-then-held-gt-MOST c =
-    let used = c in
-    let pre = used.requires in record { by_index = λ frees e. changed_not _ _ frees _ (fewer_by _) pre.1 (used.has.ensures ∙ sym e) used.if-has.false (by_still _ (fewer_retired _ _ c.if-held-gt-MOST.true).0 _); sized = pre.0 }
+    let pre = c.requires in record { by_index = λ frees e. changed_not _ _ frees _ (fewer_by _) pre.1 (c.has.ensures ∙ sym e) c.if-has.false (by_still _ (fewer_retired _ _ c.if-held-gt-MOST.true).0 _); sized = pre.0 }
 
 pub returns-then-fewer-held : goal.returns-then-fewer-held
 unfolding freed_if
 returns-then-fewer-held c =
-    let used = c in
-    let pre = used.requires in record { by_index = λ frees e. stored-count _ _ frees _ (fewer_by _) pre.1 (used.has.ensures ∙ sym e) used.if-has.false _ pre.0.counts_length
+    let pre = c.requires in record { by_index = λ frees e. stored-count _ _ frees _ (fewer_by _) pre.1 (c.has.ensures ∙ sym e) c.if-has.false _ pre.0.counts_length
           (by_some _ _ c.if-held-gt-MOST.false _ c.if-fewer-held.true); sized = record { gens_length = pre.0.gens_length; counts_length = simp length-set pre.0.counts_length } }
 
 pub returns-then-held-eq-NEW : goal.returns-then-held-eq-NEW
 unfolding freed_if
 returns-then-held-eq-NEW c =
-    let used = c in
-    let pre = used.requires in record { by_index = λ frees e. changed_not _ _ frees _ (fewer_by _) pre.1 (used.has.ensures ∙ sym e) used.if-has.false (by_still _ (fewer_none _ _ c.if-held-eq-NEW.true).0 _); sized = pre.0 }
+    let pre = c.requires in record { by_index = λ frees e. changed_not _ _ frees _ (fewer_by _) pre.1 (c.has.ensures ∙ sym e) c.if-has.false (by_still _ (fewer_none _ _ c.if-held-eq-NEW.true).0 _); sized = pre.0 }
 
 pub returns : goal.returns
 returns c =
-    let all = c in
-    let few = all in
-    let used = few in
-    let went = c.set_back.ensures in record { by_index = λ frees e. let has = used.has.ensures ∙ sym e in
-          went.by_index frees (sym has ∙ used.if-has.false)
-          ∙ changed_as _ _ frees _ (fewer_by _) used.requires.1 has used.if-has.false went_back
-          (by_all _ _ few.if-held-gt-MOST.false _ all.if-held-eq-NEW.false all.if-fewer-held.false); sized = went.sized }
+    let went = c.set_back.ensures in record { by_index = λ frees e. let has = c.has.ensures ∙ sym e in
+          went.by_index frees (sym has ∙ c.if-has.false)
+          ∙ changed_as _ _ frees _ (fewer_by _) c.requires.1 has c.if-has.false went_back
+          (by_all _ _ c.if-held-gt-MOST.false _ c.if-held-eq-NEW.false c.if-fewer-held.false); sized = went.sized }

@@ -18,12 +18,9 @@ returns-then-has c = rw (at-is _ _ _ _ c.if-b-ge-BLOCKS.false c.has.ensures c.if
 pub returns-then-p-b-gt-MOST : goal.returns-then-p-b-gt-MOST
 unfolding cells stale_at stale_for
 returns-then-p-b-gt-MOST c =
-    let used = c in
-    rw (at-is _ _ _ _ used.if-b-ge-BLOCKS.false used.has.ensures used.if-has.false, used_retired _ _ c.if-p-b-gt-MOST.true) refl
+    rw (at-is _ _ _ _ c.if-b-ge-BLOCKS.false c.has.ensures c.if-has.false, used_retired _ _ c.if-p-b-gt-MOST.true) refl
 
 pub returns : goal.returns
 unfolding cells stale_at stale_for
 returns c =
-    let few = c in
-    let used = few in
-    rw (at-is _ _ _ _ used.if-b-ge-BLOCKS.false used.has.ensures used.if-has.false, used_live _ _ few.if-p-b-gt-MOST.false) refl
+    rw (at-is _ _ _ _ c.if-b-ge-BLOCKS.false c.has.ensures c.if-has.false, used_live _ _ c.if-p-b-gt-MOST.false) refl

@@ -8,6 +8,5 @@ returns-then-not-subscribes c = rw (← c.subscribes.ensures, c.if-not-subscribe
 
 pub returns : goal.returns
 returns c =
-    let s = c in
-    let t = s.subscribes in
-    rw (c.room_of.ensures, c.of_object-2.ensures.0, c.of_object.ensures.0, ← t.ensures, s.if-not-subscribes.false) refl
+    let t = c.subscribes in
+    rw (c.room_of.ensures, c.of_object-2.ensures.0, c.of_object.ensures.0, ← t.ensures, c.if-not-subscribes.false) refl

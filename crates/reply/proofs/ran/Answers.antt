@@ -36,9 +36,8 @@ row_told p g row event e =
 pub returns : goal.returns
 unfolding reply_of bytes
 returns c =
-    let s = c in
-    let row = s.args.row.now in
+    let row = c.args.row.now in
     let acts = drop 3 row in
-    let long : most_actions ≤ length acts = omega (arith, length-drop 3 row, s.requires.row_len.0) in
+    let long : most_actions ≤ length acts = omega (arith, length-drop 3 row, c.requires.row_len.0) in
     rw (c.with_handle.ensures, c.copy.ensures, cut acts (replicate 4 0) most_actions long)
-    (row_told s.args.p s.args.g row (handle s.args.first s.args.generation) s.requires.row_value)
+    (row_told c.args.p c.args.g row (handle c.args.first c.args.generation) c.requires.row_value)

@@ -22,10 +22,9 @@ drain_done-requires c =
     let tests-are : let a = c.args in
     c.drain_refusal-no.result ≡ lowest (drain_tests a.spoilt (state_of a.k) (both a.tables.now a.guarded.now) a.log.now) =
         c.drain_refusal-no.ensures ∙ rw c.is_open.ensures refl in
-    let s = c in
-    let a = s.args in
+    let a = c.args in
     let h = drain_allowed a.spoilt (state_of a.k) (both a.tables.now a.guarded.now) a.log.now (sym tests-are ∙ c.if-no-ne0.false) in
-    record { good = (s.requires.0, h.0, s.requires.1); tables_len = (h.1, h.2, h.3) }
+    record { good = (c.requires.0, h.0, c.requires.1); tables_len = (h.1, h.2, h.3) }
 
 pub returns : goal.returns
 unfolding drain drain_tests state_of
@@ -34,5 +33,4 @@ returns c =
     c.drain_refusal-no.result ≡ lowest (drain_tests a.spoilt (state_of a.k) (both a.tables.now a.guarded.now) a.log.now) =
         c.drain_refusal-no.ensures ∙ rw c.is_open.ensures refl in
     λ p.
-    let k = c in
-    c.drain_done.ensures p ∙ sym (unless_none _ _ _ _ (sym tests-are ∙ k.if-no-ne0.false))
+    c.drain_done.ensures p ∙ sym (unless_none _ _ _ _ (sym tests-are ∙ c.if-no-ne0.false))

@@ -15,40 +15,37 @@ use Rattle.steps.proofs.drain_done.Goals as goal
 pub run-n-requires : goal.run-n-requires
 unfolding state_of
 run-n-requires c =
-    let s = c in
-    let a = s.args in
+    let a = c.args in
     let g = c.generations-gens in record { sized = (
         record {
-          mail = mail_of a.k _ s.well_formed.0;
-          counts = rings a.k _ s.well_formed.0;
-          rests = s.requires.good.0.seats.rests_length;
+          mail = mail_of a.k _ c.well_formed.0;
+          counts = rings a.k _ c.well_formed.0;
+          rests = c.requires.good.0.seats.rests_length;
           times = refl;
           few = λ b. omega (arith, zeros-at first_bytes b);
-          log = s.requires.tables_len.2;
+          log = c.requires.tables_len.2;
         },
-        s.requires.tables_len.0,
-        s.requires.tables_len.1,
-        omega (arith, s.requires.good.2),
-      ); fit_run = drain_fit a.k g.result (both a.tables.now a.guarded.now) a.log.now g.ensures s.requires.good.1 s.requires.good.0 }
+        c.requires.tables_len.0,
+        c.requires.tables_len.1,
+        omega (arith, c.requires.good.2),
+      ); fit_run = drain_fit a.k g.result (both a.tables.now a.guarded.now) a.log.now g.ensures c.requires.good.1 c.requires.good.0 }
 
 pub overflow_cast-n : goal.overflow_cast-n
 overflow_cast-n c =
     let most : c.run-n.result ≤ most_steps =
-        let s = c in
-    let a = s.args in
+    let a = c.args in
     let g = c.generations-gens in
-    omega (arith, s.requires.good.2, steps_most a.k g.result (both a.tables.now a.guarded.now) a.log.now g.ensures s.requires.good.1 s.requires.good.0 a.budget _ c.run-n.ensures.1) in
+    omega (arith, c.requires.good.2, steps_most a.k g.result (both a.tables.now a.guarded.now) a.log.now g.ensures c.requires.good.1 c.requires.good.0 a.budget _ c.run-n.ensures.1) in
     omega (arith, most)
 
 pub returns : goal.returns
 unfolding answered state_of drain_done drain_end
 returns c = λ p.
-    let s = c in
-    let a = s.args in
+    let a = c.args in
     let g = c.generations-gens in
     let run = c.run-n in
     rw (
-      drained_is a.k g.result (both a.tables.now a.guarded.now) a.log.now g.ensures s.requires.good.1 s.requires.good.0 a.budget _ run.ensures.1,
+      drained_is a.k g.result (both a.tables.now a.guarded.now) a.log.now g.ensures c.requires.good.1 c.requires.good.0 a.budget _ run.ensures.1,
       c.let_go_each-pool.ensures.result_value,
       c.let_go_each-pool.ensures.result_value_2,
       c.done.ensures,

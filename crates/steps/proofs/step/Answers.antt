@@ -12,9 +12,8 @@ slice_bounds-take_front-end-3 c = sym (rings c.args.k _ c.well_formed.0)
 
 pub take_front-requires : goal.take_front-requires
 take_front-requires c =
-    let s = c in
-    let k = s.args.k in
-    record { mail = mail_of k _ s.well_formed.0; q_in_bounds = (box_of_lem k _ s.well_formed.0 _ s.requires.0 s.requires.1, s.requires.2) }
+    let k = c.args.k in
+    record { mail = mail_of k _ c.well_formed.0; q_in_bounds = (box_of_lem k _ c.well_formed.0 _ c.requires.0 c.requires.1, c.requires.2) }
 
 pub returns : goal.returns
 unfolding state_of

@@ -13,24 +13,22 @@ use Rattle.chart.proofs.Rows.{rows_to, row_same, first_row, row-turn, rows_done}
 use Rattle.chart.proofs.table.fill_table.Goals as goal
 
 pub index_rows-index-requires : goal.index_rows-index-requires
-index_rows-index-requires c = let from = c in size_of from.args.chart.now (accepted from.args.e _ from.requires.0).fits
+index_rows-index-requires c = size_of c.args.chart.now (accepted c.args.e _ c.requires.0).fits
 
 pub write_row-requires : goal.write_row-requires
 write_row-requires c = omega (arith, c.requires.1, c.rows_in-rows.ensures.2)
 
 pub loop-k-init : goal.loop-k-init
 loop-k-init c =
-    let from = c in
-    let d = from.args.chart.now in
+    let d = c.args.chart.now in
     let w = c.write_row in
     let r = c.rows_in-rows.ensures in
-    let first = ap (λ o. row_bytes (record { flag = 0; out = o })) c.start_of.ensures ∙ row_same 0 (start d) (start_good d (accepted from.args.e d from.requires.0)).few in
-    (search rules, r.0, r.1, w.auto.part ∙ from.requires.1 ∙ r.2, first_row from.args.e d w.new.part (drop row_size from.args.table.now) (rw (← first) w.ensures))
+    let first = ap (λ o. row_bytes (record { flag = 0; out = o })) c.start_of.ensures ∙ row_same 0 (start d) (start_good d (accepted c.args.e d c.requires.0)).few in
+    (search rules, r.0, r.1, w.auto.part ∙ c.requires.1 ∙ r.2, first_row c.args.e d w.new.part (drop row_size c.args.table.now) (rw (← first) w.ensures))
 
 pub row_no-requires : goal.row_no-requires
 row_no-requires c =
-    let from = c in
-    (from.requires.0, c.index_rows-index.ensures, c.state_count-n.ensures, omega (arith, c.loop-k-test.true, c.loop-k.invariant.2))
+    (c.requires.0, c.index_rows-index.ensures, c.state_count-n.ensures, omega (arith, c.loop-k-test.true, c.loop-k.invariant.2))
 
 pub loop-k-preserved : goal.loop-k-preserved
 loop-k-preserved c =
@@ -47,8 +45,7 @@ loop-k-preserved c =
 
 pub returns : goal.returns
 returns c =
-    let from = c in
     let at = c.loop-k in
     let w = c.write_row in
     let q : at.k ≡ c.rows_in-rows.result = omega (arith, at.invariant.0, c.loop-k-test.false) in
-    rows_done from.args.e from.args.chart.now at.k w.new.part at.table (q ∙ at.invariant.1) (w.auto.part ∙ from.requires.1) at.invariant.4
+    rows_done c.args.e c.args.chart.now at.k w.new.part at.table (q ∙ at.invariant.1) (w.auto.part ∙ c.requires.1) at.invariant.4

@@ -17,9 +17,8 @@ row_of-j-requires c = ready_asks (ready_at c.requires.0 _ c.find_holder-s.ensure
 
 pub returns : goal.returns
 returns c =
-    let from = c in
     let s = c.find_holder-s in
     let n = c.if-s-eq0.false in
     let j = c.row_of-j in
-    row_made from.requires.0 _ from.args.i s.result j.result _ _ from.requires.1 s.ensures.0 n
-    (row-found (ready_at from.requires.0 s.result s.ensures.1) n j.ensures.0) c.field.ensures c.row_does.ensures
+    row_made c.requires.0 _ c.args.i s.result j.result _ _ c.requires.1 s.ensures.0 n
+    (row-found (ready_at c.requires.0 s.result s.ensures.1) n j.ensures.0) c.field.ensures c.row_does.ensures

@@ -10,9 +10,8 @@ slice_bounds-copy-end-2 c = sym (length-take-le row_size c.args.part.now c.requi
 
 pub copy-requires : goal.copy-requires
 copy-requires c =
-    let s = c in
     let long : length c.bytes_of.result ≡ row_size = search rules in
-    long ∙ sym (length-take-le row_size s.args.part.now s.requires)
+    long ∙ sym (length-take-le row_size c.args.part.now c.requires)
 
 pub returns : goal.returns
 returns c = rw (c.copy.ensures, c.bytes_of.ensures) refl

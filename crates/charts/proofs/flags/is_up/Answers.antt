@@ -6,5 +6,4 @@ use Rattle.charts.proofs.flags.is_up.Goals as goal
 
 pub returns : goal.returns
 returns c =
-    let s = c in
-    c.has.ensures ∙ sym (words_at s.args.up.now s.args.p s.args.f (λ z. omega (arith, s.requires.1)))
+    c.has.ensures ∙ sym (words_at c.args.up.now c.args.p c.args.f (λ z. omega (arith, c.requires.1)))

@@ -34,6 +34,5 @@ loop-i-preserved c =
 
 pub returns : goal.returns
 returns c =
-    let s = c in
     let l = c.loop-i in
-    all_lowered s.args.up.now l.up s.args.p l.invariant.0 (λ i h. l.invariant.1 i (omega (arith, s.requires.1, c.loop-i-test.false)))
+    all_lowered c.args.up.now l.up c.args.p l.invariant.0 (λ i h. l.invariant.1 i (omega (arith, c.requires.1, c.loop-i-test.false)))

@@ -5,5 +5,4 @@ use Rattle.charts.proofs.flags.set.Goals as goal
 
 pub returns : goal.returns
 returns c =
-    let s = c in
-    flag-set s.args.up.now s.args.p s.args.f c.changed.result s.args.value s.requires.1 (omega (arith, s.requires.2, s.requires.3)) c.changed.ensures
+    flag-set c.args.up.now c.args.p c.args.f c.changed.result c.args.value c.requires.1 (omega (arith, c.requires.2, c.requires.3)) c.changed.ensures

@@ -18,13 +18,11 @@ returns-then-escaped c = rw (eq-eqb _ _ c.if-b-ne-FLAG.false, le-ltb _ _ c.if-si
 pub returns-then-size-lt-LEAST_BYTES : goal.returns-then-size-lt-LEAST_BYTES
 unfolding part_of is_whole
 returns-then-size-lt-LEAST_BYTES c =
-    let a = c in
     rw (eq-eqb _ _ c.if-b-ne-FLAG.false, le-ltb _ _ c.if-size-gt-MOST_BYTES.false, c.if-escaped.false)
-    (sym (fits_short a.args.bytes.now a.args.n (omega (arith, a.requires, c.if-size-gt-MOST_BYTES.false)) c.if-size-lt-LEAST_BYTES.true))
+    (sym (fits_short c.args.bytes.now c.args.n (omega (arith, c.requires, c.if-size-gt-MOST_BYTES.false)) c.if-size-lt-LEAST_BYTES.true))
 
 pub returns : goal.returns
 unfolding part_of is_whole check_of
 returns c =
-    let a = c in
     rw (eq-eqb _ _ c.if-b-ne-FLAG.false, le-ltb _ _ c.if-size-gt-MOST_BYTES.false, c.if-escaped.false)
-    (rw c.sum_of-check.ensures (sym (fits_long a.args.bytes.now a.args.n (omega (arith, a.requires, c.if-size-gt-MOST_BYTES.false)) c.if-size-lt-LEAST_BYTES.false)))
+    (rw c.sum_of-check.ensures (sym (fits_long c.args.bytes.now c.args.n (omega (arith, c.requires, c.if-size-gt-MOST_BYTES.false)) c.if-size-lt-LEAST_BYTES.false)))

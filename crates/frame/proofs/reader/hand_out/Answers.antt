@@ -12,6 +12,5 @@ overflow_sub-result c =
 pub returns : goal.returns
 unfolding state_of part_of last_of frames_of fed_of
 returns c =
-    let a = c in
-    let l : length a.args.bytes ≡ 96 = search rules in
-    (finished a.args.bytes a.args.n (omega (arith, l, a.requires.0)) _ _ a.requires.1 c.gap_at.ensures, refl, omega (arith, a.requires.0), rw (data_length a.args.bytes a.args.n (omega (arith, l, a.requires.0))) refl)
+    let l : length c.args.bytes ≡ 96 = search rules in
+    (finished c.args.bytes c.args.n (omega (arith, l, c.requires.0)) _ _ c.requires.1 c.gap_at.ensures, refl, omega (arith, c.requires.0), rw (data_length c.args.bytes c.args.n (omega (arith, l, c.requires.0))) refl)

@@ -21,8 +21,7 @@ bounds-out-e c =
 
 pub returns : goal.returns
 returns c =
-    let a = c in
-    filled _ _ _ _ _ _ _ _ _ _ _ _ _ a.requires.1
+    filled _ _ _ _ _ _ _ _ _ _ _ _ _ c.requires.1
     c.put-a.ensures
     c.put-b.ensures
     c.put_all-c.ensures

@@ -10,8 +10,7 @@ loop-i-init c = (refl, refl, refl)
 pub put-j-requires : goal.put-j-requires
 put-j-requires c =
     let l = c.loop-i in
-    let a = c in
-    omega (arith, size_turn a.args.bytes.now l.i c.loop-i-test.true, l.invariant.0, l.invariant.1, a.requires)
+    omega (arith, size_turn c.args.bytes.now l.i c.loop-i-test.true, l.invariant.0, l.invariant.1, c.requires)
 
 pub loop-i-preserved : goal.loop-i-preserved
 loop-i-preserved c =

@@ -43,15 +43,13 @@ returns-then-not-fed c =
 
 pub slice_bounds-fill-end : goal.slice_bounds-fill-end
 slice_bounds-fill-end c =
-    let a = c in
-    let l : length a.args.fed.reader.bytes ≡ most_bytes = search rules in
-    omega (arith, l, a.requires)
+    let l : length c.args.fed.reader.bytes ≡ most_bytes = search rules in
+    omega (arith, l, c.requires)
 
 pub returns : goal.returns
 unfolding told_frame frames_of
 returns c =
-    let a = c in
-    let f = a.args.fed in
+    let f = c.args.fed in
     let l : length f.reader.bytes ≡ most_bytes = search rules in
     let e : f.complete ≡ true = not-false _ c.if-not-fed.false in
-    rw (e, c.one.ensures.0, size_is f.reader.bytes f.size l a.requires, data-told f.reader.bytes f.size l a.requires _ c.fill.ensures) refl
+    rw (e, c.one.ensures.0, size_is f.reader.bytes f.size l c.requires, data-told f.reader.bytes f.size l c.requires _ c.fill.ensures) refl

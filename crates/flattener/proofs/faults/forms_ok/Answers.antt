@@ -1,0 +1,56 @@
+use borrow.Author.Rules.{rules}
+use borrow.Author.Tests.{le-leb, lt-leb}
+use mathlib.Core.Bool.{true, false, ◌&&◌}
+use mathlib.Core.Path.{◌≡◌, refl, sym, ap, ◌∙◌}
+use Prim.Native.Nat.{◌≤◌, ◌-◌, ◌/◌, ◌*◌}
+use lib.ListN.{length}
+use Rattle.ground.specs.Bools.{refused, passed}
+use Rattle.ground.specs.Every.{every_done, every_pass, every_fail}
+use Rattle.ground.specs.Parts.{tail_part}
+use Rattle.ground.specs.Range.{every}
+use Rattle.chart.specs.Chart.{forms_ok, among}
+use Rattle.chart.specs.Held.{form_at}
+use Rattle.chart.specs.Numbers.{most_states}
+use Rattle.flattener.proofs.faults.forms_ok.Goals as goal
+
+pub loop-i-init : goal.loop-i-init
+unfolding forms_ok
+loop-i-init c = (search rules, refl)
+
+pub returns-then-not-form_ok : goal.returns-then-not-form_ok
+returns-then-not-form_ok c =
+    let d = c.args.chart.now in
+    let n = c.args.n in
+    let ed = c.args.edition in
+    let i = c.loop-i.i in
+    let q : form_at ed n d i ≡ false = rw (← c.kind_at.ensures, ← tail_part d (8 * i)) (sym c.form_ok.ensures ∙ c.if-not-form_ok.true) in
+    sym (ap (λ b. b && among (most_states ed) n) (every_fail (form_at ed n d) i (length d / 8) (search rules) q)) ∙ c.loop-i.invariant.1
+
+pub loop-i-preserved : goal.loop-i-preserved
+loop-i-preserved c =
+    let d = c.args.chart.now in
+    let n = c.args.n in
+    let ed = c.args.edition in
+    let i = c.loop-i.i in
+    let q : form_at ed n d i ≡ true = rw (← c.kind_at.ensures, ← tail_part d (8 * i)) (sym c.form_ok.ensures ∙ c.if-not-form_ok.false) in
+    (search rules, sym (ap (λ b. b && among (most_states ed) n) (every_pass (form_at ed n d) i (length d / 8) (search rules) q)) ∙ c.loop-i.invariant.1)
+
+pub returns-then-n-lt1 : goal.returns-then-n-lt1
+unfolding among
+returns-then-n-lt1 c =
+    let counted : let from = c.args in among (most_states from.edition) from.n ≡ forms_ok from.edition from.n from.chart.now =
+        let d = c.args.chart.now in
+    let n = c.args.n in
+    let ed = c.args.edition in
+    sym (ap (λ b. b && among (most_states ed) n) (every_done (form_at ed n d) c.loop-i.i (length d / 8) (search rules))) ∙ c.loop-i.invariant.1 in
+    simp (lt-leb _ _ c.if-n-lt1.true) at counted
+
+pub returns : goal.returns
+unfolding among
+returns c =
+    let counted : let from = c.args in among (most_states from.edition) from.n ≡ forms_ok from.edition from.n from.chart.now =
+        let d = c.args.chart.now in
+    let n = c.args.n in
+    let ed = c.args.edition in
+    sym (ap (λ b. b && among (most_states ed) n) (every_done (form_at ed n d) c.loop-i.i (length d / 8) (search rules))) ∙ c.loop-i.invariant.1 in
+    rw c.most_states.ensures.0 (simp (le-leb _ _ c.if-n-lt1.false) at counted)
