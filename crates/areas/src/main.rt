@@ -183,9 +183,7 @@ fn turn(
         });
     }
     Ok(Run {
-        kernel: make(
-            rt, k, head, &record, &chart, payloads, tables, guarded, log,
-        )?,
+        kernel: make(rt, k, head, &record, &chart, payloads, tables, guarded, log)?,
         goes_on: true,
     })
 }

@@ -162,9 +162,7 @@ fn turn(
         return Ok(run);
     }
     if is_command(record) {
-        return answer_command(
-            rt, run, record, line, chart, payloads, tables, guarded, log,
-        );
+        return answer_command(rt, run, record, line, chart, payloads, tables, guarded, log);
     }
     text::write(rt, line)?;
     Ok(after_line(run, record, chart))
