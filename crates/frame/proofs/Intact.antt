@@ -1,5 +1,5 @@
 -- Nothing is handed out but intact frames: wherever a frame is handed out, the input up to there ends in that frame's bytes.
-use Rattle.std.proofs.Common.{◌≡◌, ℕ, suc, ◌+◌, ◌-◌, ◌<◌, ◌≤◌, Bool, true, false, cond, eqb, ltb, leb, List, [], ◌∷◌, ◌++◌, length, get_or, take, drop, sym, refl, ap, ◌∙◌, inl, inr, append_assoc, append-nil, arith, length-append, length-drop, length-take-le, drop-cons, get_or-take, take-suc, ltb-true, eqb-true, leb-true}
+use Rattle.std.proofs.Common.{◌≡◌, ℕ, suc, ◌-◌, ◌<◌, ◌≤◌, Bool, true, false, cond, eqb, ltb, leb, List, [], ◌∷◌, ◌++◌, length, get_or, take, drop, sym, refl, ap, ◌∙◌, inl, inr, append_assoc, append-nil, arith, length-append, length-drop, length-take-le, drop-cons, get_or-take, take-suc, ltb-true, eqb-true, leb-true}
 use mathlib.Core.List.{nil≢cons, head-eq_of_cons-eq}
 use lib.Seq.{take-length}
 use Rattle.ground.specs.Bools.{and_left, and_right}

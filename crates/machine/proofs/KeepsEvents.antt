@@ -11,30 +11,7 @@ use Rattle.machine.proofs.Counts.{live_handle}
 use Rattle.machine.proofs.Parts.{started_deep, wants_set}
 use Rattle.machine.proofs.Publish.{have_room, publish_done_keeps}
 use Rattle.machine.proofs.Tests.{within_low, within_high, within-signal, within_block, unless-state}
-use Rattle.machine.specs.Events.{
-  counted,
-  new_tests,
-  new,
-  post_tests,
-  post,
-  post_front_tests,
-  post_front,
-  receivers,
-  publish_tests,
-  publish,
-  subscribe_tests,
-  wanting,
-  subscribe,
-  unsubscribe,
-  hold_tests,
-  hold,
-  release_tests,
-  release,
-  drop_tests,
-  drop_event,
-  read_tests,
-  read,
-}
+use Rattle.machine.specs.Events.{new_tests, new, post_tests, post, post_front_tests, post_front, receivers, publish_tests, publish, subscribe_tests, wanting, subscribe, unsubscribe, hold_tests, hold, release_tests, release, drop_tests, drop_event, read_tests, read}
 use Rattle.machine.specs.Inv.{Inv, references}
 use Rattle.machine.specs.Numbers.{objects, most_bytes, signal_places}
 use Rattle.machine.specs.Reply.{Areas}

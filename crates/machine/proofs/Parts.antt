@@ -15,7 +15,7 @@ use Rattle.mail.specs.Entry.{hand_of}
 use Rattle.mail.specs.Laws.{OfAll, all_back, all_front, all_took, all_emptied, behind-length, ahead-length, rest-length, bare-length}
 use Rattle.pool.specs.Cell.{Cell, absent}
 use Rattle.pool.specs.Laws.{changed-length}
-use Rattle.pool.specs.Row.{at, blocks, changed}
+use Rattle.pool.specs.Row.{blocks, changed}
 use Rattle.machine.proofs.Counts.{MakesNoneLive}
 use Rattle.machine.specs.Inv.{is_live, IsSignal, IsEvent, IsBlock, StoreOk, MailOk, SidesOk, ObjectsOk, WantsOk, ArmedOk, TimersOk}
 use Rattle.machine.specs.Numbers.{objects, slots, edition_of, timers, most_holds, side_queues, most_aside, signal_places, capacity}

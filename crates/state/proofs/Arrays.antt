@@ -3,7 +3,7 @@ use mathlib.Core.List.{List}
 use mathlib.Core.Path.{◌≡◌, sym, ◌∙◌}
 use Prim.Native.Nat.{ℕ, ◌-◌, ◌<◌, ◌≤◌}
 use native.Mathlib.Omega.{arith}
-use lib.ListN.{length, length-map}
+use lib.ListN.{length}
 use Rattle.chart.specs.Numbers.{most_flag}
 use Rattle.chart.specs.declared.read.Edition.TheVariants.{Guarded}
 use Rattle.machine.specs.Numbers.{objects, side_queues}

@@ -28,7 +28,7 @@ use Rattle.machine.specs.Steps.{to_run, slot_to_run, coming, next_rows, step_tes
 use Rattle.story.specs.Calls.{are_bytes, Call, Story, then, kernel, answer_in}
 use Rattle.story.specs.Demands
 use Rattle.story.specs.Table.{NEXT, END, DRAIN}
-use Rattle.story.specs.Terms.{argument, reply, number, value₁, value₂, Did, next_call, end_call, steps, Drains}
+use Rattle.story.specs.Terms.{argument, reply, number, value₁, Did, next_call, end_call, steps, Drains}
 use Rattle.story.proofs.Draining.{onward, onward-last, Comes, drain_comes}
 use Rattle.story.proofs.Lent.{Whole}
 use Rattle.story.proofs.Made.{Made, drain_made, number_of}

@@ -18,7 +18,7 @@ use Rattle.machine.specs.Steps.{to_run, slot_to_run, coming, first_byte, generat
 use Rattle.story.specs.Calls.{Call, Story, kernel, answer_in}
 use Rattle.story.specs.Demands.{Taken}
 use Rattle.story.specs.Table.{NEXT}
-use Rattle.story.specs.Terms.{object, generation, Did, Takes}
+use Rattle.story.specs.Terms.{generation, Did, Takes}
 use Rattle.story.proofs.Handles.{EndsWith, next_ends}
 use Rattle.story.proofs.Lasting.{last_most}
 use Rattle.story.proofs.Lent.{WholeFor, whole_for}

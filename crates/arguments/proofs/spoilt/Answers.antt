@@ -1,4 +1,3 @@
-use borrow.Author.Rules.{rules}
 use mathlib.Core.Path.{refl}
 use Rattle.machine.specs.Machine.{spoilt}
 use Rattle.arguments.proofs.spoilt.Goals as goal

@@ -1,8 +1,6 @@
-use borrow.Author.Rules.{rules}
 use mathlib.Core.Path.{◌∙◌, sym, refl}
 use native.Mathlib.Omega.{arith}
 use borrow.Author.Tests.{le-ltb, lt-ltb}
-use Rattle.ground.specs.Bools.{passed, refused}
 use Rattle.ground.specs.Bytes.{blank}
 use Rattle.ground.specs.Range.{every_from}
 use Rattle.machine.specs.Machine.{spoilt_new}

@@ -13,7 +13,7 @@ unfolding defer state_of
 returns-then-no-ne0 c =
     let tested : let a = c.args in
     c.defer_refusal-no.result ≡ lowest (defer_tests a.spoilt a.q (state_of a.k)) =
-        let a = c.args in
+    let a = c.args in
     c.defer_refusal-no.ensures
     ∙ defer_tests_lem a.spoilt a.q (state_of a.k) _ _ _
     c.is_open.ensures
@@ -26,7 +26,7 @@ unfolding state_of
 set_aside-requires c =
     let tested : let a = c.args in
     c.defer_refusal-no.result ≡ lowest (defer_tests a.spoilt a.q (state_of a.k)) =
-        let a = c.args in
+    let a = c.args in
     c.defer_refusal-no.ensures
     ∙ defer_tests_lem a.spoilt a.q (state_of a.k) _ _ _
     c.is_open.ensures
@@ -42,7 +42,7 @@ unfolding state_of
 overflow_cast-n c =
     let tested : let a = c.args in
     c.defer_refusal-no.result ≡ lowest (defer_tests a.spoilt a.q (state_of a.k)) =
-        let a = c.args in
+    let a = c.args in
     c.defer_refusal-no.ensures
     ∙ defer_tests_lem a.spoilt a.q (state_of a.k) _ _ _
     c.is_open.ensures
@@ -58,7 +58,7 @@ unfolding answered defer state_of
 returns c =
     let tested : let a = c.args in
     c.defer_refusal-no.result ≡ lowest (defer_tests a.spoilt a.q (state_of a.k)) =
-        let a = c.args in
+    let a = c.args in
     c.defer_refusal-no.ensures
     ∙ defer_tests_lem a.spoilt a.q (state_of a.k) _ _ _
     c.is_open.ensures

@@ -1,4 +1,3 @@
-use borrow.Author.Rules.{rules}
 use mathlib.Core.Path.{sym}
 use Rattle.bits.specs.Members.{members}
 use Rattle.ground.specs.Search.{first_end}

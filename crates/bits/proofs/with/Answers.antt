@@ -1,4 +1,3 @@
-use borrow.Author.Rules.{rules}
 use Rattle.bits.proofs.Digits.{with_is}
 use Rattle.bits.proofs.with.Goals as goal
 

@@ -1,4 +1,3 @@
-use borrow.Author.Rules.{rules}
 use Rattle.bits.proofs.Digits.{without_is}
 use Rattle.bits.proofs.without.Goals as goal
 

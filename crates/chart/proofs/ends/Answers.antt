@@ -1,4 +1,3 @@
-use borrow.Author.Rules.{rules}
 use Rattle.bits.specs.Laws.{last_size}
 use Rattle.bits.specs.Members.{width}
 use Rattle.chart.proofs.ends.Goals as goal

@@ -1,4 +1,3 @@
-use borrow.Author.Rules.{rules}
 use native.Mathlib.Omega.{arith}
 use Rattle.chart.specs.Flat.{place}
 use Rattle.chart.proofs.plain_place.Goals as goal

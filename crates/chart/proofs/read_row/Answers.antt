@@ -1,4 +1,3 @@
-use borrow.Author.Rules.{rules}
 use mathlib.Core.Path.{sym, ◌∙◌}
 use Rattle.chart.proofs.Found.{one-taken, one-unsound, row_cut}
 use Rattle.chart.proofs.read_row.Goals as goal

@@ -1,11 +1,8 @@
 use borrow.Author.Rules.{rules}
-use mathlib.Core.Path.{◌≡◌, refl, sym, ◌∙◌}
-use Prim.Native.Nat.{◌≤◌, ◌-◌, ◌+◌, ◌*◌}
+use mathlib.Core.Path.{refl, sym, ◌∙◌}
 use native.Mathlib.Omega.{arith}
-use Rattle.ground.specs.Bools.{refused, passed}
 use Rattle.chart.specs.Flags.{in_words}
-use Rattle.chart.specs.Held.{reading}
-use Rattle.chart.specs.Numbers.{Guarded, each, row_size}
+use Rattle.chart.specs.Numbers.{Guarded}
 use Rattle.chart.proofs.Found.{row_cut, turn_done, turn-next, turn-taken, turn-unsound, turn-zeros}
 use Rattle.chart.proofs.OneRow.{sound-is}
 use Rattle.chart.proofs.read_rows.Goals as goal

@@ -1,7 +1,5 @@
 use mathlib.Core.Path.{◌∙◌, sym}
-use borrow.Author.Rules.{rules}
 use borrow.Author.Tests.{eq-eqb, ne_eqb, le-leb, lt-leb}
-use Rattle.ground.specs.Bools.{refused, passed}
 use Rattle.chart.specs.Flat.{sound}
 use Rattle.chart.proofs.sound.Goals as goal
 

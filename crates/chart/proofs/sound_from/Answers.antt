@@ -1,7 +1,5 @@
-use borrow.Author.Rules.{rules}
 use borrow.Author.Tests.{le-leb, lt-leb}
 use mathlib.Core.Path.{sym, ◌∙◌}
-use Rattle.ground.specs.Bools.{refused, passed}
 use Rattle.chart.proofs.OneRow.{plain_from}
 use Rattle.chart.proofs.sound_from.Goals as goal
 

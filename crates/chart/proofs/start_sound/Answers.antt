@@ -1,7 +1,5 @@
-use borrow.Author.Rules.{rules}
 use mathlib.Core.Path.{◌∙◌, sym, refl}
 use native.Mathlib.Omega.{arith}
-use Rattle.ground.specs.Bools.{refused, passed}
 use Rattle.chart.specs.Flat.{start_sound}
 use Rattle.chart.proofs.OneRow.{sound-is}
 use Rattle.chart.proofs.start_sound.Goals as goal

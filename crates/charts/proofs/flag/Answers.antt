@@ -20,7 +20,7 @@ pub returns-then-no-ne0 : goal.returns-then-no-ne0
 unfolding flag
 returns-then-no-ne0 c =
     let tests-are : c.flag_refusal-no.result ≡ lowest (flag_tests c.args.spoilt c.args.p c.args.f c.args.v (state_of c.args.k)) =
-        c.flag_refusal-no.ensures
+    c.flag_refusal-no.ensures
     ∙ flag_tests_lem c.args.k c.args.spoilt c.args.p c.args.f c.args.v 0 _ _
     c.is_open.ensures
     c.of_object-started.ensures.0 in
@@ -29,30 +29,30 @@ returns-then-no-ne0 c =
 pub with_flag-requires : goal.with_flag-requires
 with_flag-requires c =
     let tests-are : c.flag_refusal-no.result ≡ lowest (flag_tests c.args.spoilt c.args.p c.args.f c.args.v (state_of c.args.k)) =
-        c.flag_refusal-no.ensures
+    c.flag_refusal-no.ensures
     ∙ flag_tests_lem c.args.k c.args.spoilt c.args.p c.args.f c.args.v 0 _ _
     c.is_open.ensures
     c.of_object-started.ensures.0 in
     let allowed : c.flag_refusal-no.result ≡ 0 → (c.args.p ≤ objects) × (1 ≤ c.args.f) × (c.args.f ≤ most_flag Guarded) =
-        λ z. flag_allowed c.args.k c.args.spoilt c.args.p c.args.f c.args.v _ tests-are z in
+    λ z. flag_allowed c.args.k c.args.spoilt c.args.p c.args.f c.args.v _ tests-are z in
     allowed c.if-no-ne0.false
 
 pub flag_changes-requires : goal.flag_changes-requires
 flag_changes-requires c =
     let tests-are : c.flag_refusal-no.result ≡ lowest (flag_tests c.args.spoilt c.args.p c.args.f c.args.v (state_of c.args.k)) =
-        c.flag_refusal-no.ensures
+    c.flag_refusal-no.ensures
     ∙ flag_tests_lem c.args.k c.args.spoilt c.args.p c.args.f c.args.v 0 _ _
     c.is_open.ensures
     c.of_object-started.ensures.0 in
     let allowed : c.flag_refusal-no.result ≡ 0 → (c.args.p ≤ objects) × (1 ≤ c.args.f) × (c.args.f ≤ most_flag Guarded) =
-        λ z. flag_allowed c.args.k c.args.spoilt c.args.p c.args.f c.args.v _ tests-are z in
+    λ z. flag_allowed c.args.k c.args.spoilt c.args.p c.args.f c.args.v _ tests-are z in
     allowed c.if-no-ne0.false
 
 pub returns : goal.returns
 unfolding answered flag
 returns c =
     let tests-are : c.flag_refusal-no.result ≡ lowest (flag_tests c.args.spoilt c.args.p c.args.f c.args.v (state_of c.args.k)) =
-        c.flag_refusal-no.ensures
+    c.flag_refusal-no.ensures
     ∙ flag_tests_lem c.args.k c.args.spoilt c.args.p c.args.f c.args.v 0 _ _
     c.is_open.ensures
     c.of_object-started.ensures.0 in

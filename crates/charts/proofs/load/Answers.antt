@@ -18,9 +18,9 @@ pub returns-then-no-ne0 : goal.returns-then-no-ne0
 unfolding load
 returns-then-no-ne0 c =
     let lent : BothTables =
-        both c.args.tables.now c.args.guarded.now in
+    both c.args.tables.now c.args.guarded.now in
     let tests-are : c.load_refusal-no.result ≡ lowest (load_tests c.args.spoilt c.args.q (state_of c.args.k) lent) =
-        c.load_refusal-no.ensures
+    c.load_refusal-no.ensures
     ∙ load_tests_lem c.args.k c.args.spoilt c.args.q 0 lent _ _ _
     c.slot_bad-bad_slot.ensures
     c.is_open.ensures
@@ -30,21 +30,20 @@ returns-then-no-ne0 c =
 pub fill_slot-class-requires : goal.fill_slot-class-requires
 fill_slot-class-requires c =
     let lent : BothTables =
-        both c.args.tables.now c.args.guarded.now in
+    both c.args.tables.now c.args.guarded.now in
     let tests-are : c.load_refusal-no.result ≡ lowest (load_tests c.args.spoilt c.args.q (state_of c.args.k) lent) =
-        c.load_refusal-no.ensures
+    c.load_refusal-no.ensures
     ∙ load_tests_lem c.args.k c.args.spoilt c.args.q 0 lent _ _ _
     c.slot_bad-bad_slot.ensures
     c.is_open.ensures
     c.slot_used.ensures in
     let allowed : c.load_refusal-no.result ≡ 0 →
     (c.args.q < slots) × (length c.args.tables.now ≡ table_bytes) × (c.args.q ≡ guarded_slot → length c.args.guarded.now ≡ guarded_bytes) =
-        λ z. load_allowed c.args.k c.args.spoilt c.args.q _ lent tests-are z in
+    λ z. load_allowed c.args.k c.args.spoilt c.args.q _ lent tests-are z in
     allowed c.if-no-ne0.false
 
 pub overflow_cast-class : goal.overflow_cast-class
 overflow_cast-class c =
-
     let f = c.fill_slot-class.ensures in
     let a = c.args in
     omega (arith, f.value, class_most (edition_of a.q) a.chart.now)
@@ -53,9 +52,9 @@ pub returns-then-class-ne0 : goal.returns-then-class-ne0
 unfolding answered load
 returns-then-class-ne0 c =
     let lent : BothTables =
-        both c.args.tables.now c.args.guarded.now in
+    both c.args.tables.now c.args.guarded.now in
     let tests-are : c.load_refusal-no.result ≡ lowest (load_tests c.args.spoilt c.args.q (state_of c.args.k) lent) =
-        c.load_refusal-no.ensures
+    c.load_refusal-no.ensures
     ∙ load_tests_lem c.args.k c.args.spoilt c.args.q 0 lent _ _ _
     c.slot_bad-bad_slot.ensures
     c.is_open.ensures
@@ -69,21 +68,20 @@ returns-then-class-ne0 c =
 pub with_chart-requires : goal.with_chart-requires
 with_chart-requires c =
     let lent : BothTables =
-        both c.args.tables.now c.args.guarded.now in
+    both c.args.tables.now c.args.guarded.now in
     let tests-are : c.load_refusal-no.result ≡ lowest (load_tests c.args.spoilt c.args.q (state_of c.args.k) lent) =
-        c.load_refusal-no.ensures
+    c.load_refusal-no.ensures
     ∙ load_tests_lem c.args.k c.args.spoilt c.args.q 0 lent _ _ _
     c.slot_bad-bad_slot.ensures
     c.is_open.ensures
     c.slot_used.ensures in
     let allowed : c.load_refusal-no.result ≡ 0 →
     (c.args.q < slots) × (length c.args.tables.now ≡ table_bytes) × (c.args.q ≡ guarded_slot → length c.args.guarded.now ≡ guarded_bytes) =
-        λ z. load_allowed c.args.k c.args.spoilt c.args.q _ lent tests-are z in
+    λ z. load_allowed c.args.k c.args.spoilt c.args.q _ lent tests-are z in
     (allowed c.if-no-ne0.false).0
 
 pub overflow_cast-state_count : goal.overflow_cast-state_count
 overflow_cast-state_count c =
-
     let class = c.fill_slot-class.ensures.value in
     let a = c.args in
     omega (arith, c.state_count.ensures, at_most (edition_of a.q) (states a.chart.now) a.chart.now (accepted (edition_of a.q) a.chart.now (sym class ∙ c.if-class-ne0.false)).forms)
@@ -92,9 +90,9 @@ pub returns : goal.returns
 unfolding answered load
 returns c =
     let lent : BothTables =
-        both c.args.tables.now c.args.guarded.now in
+    both c.args.tables.now c.args.guarded.now in
     let tests-are : c.load_refusal-no.result ≡ lowest (load_tests c.args.spoilt c.args.q (state_of c.args.k) lent) =
-        c.load_refusal-no.ensures
+    c.load_refusal-no.ensures
     ∙ load_tests_lem c.args.k c.args.spoilt c.args.q 0 lent _ _ _
     c.slot_bad-bad_slot.ensures
     c.is_open.ensures

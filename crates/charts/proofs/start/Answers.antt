@@ -21,16 +21,16 @@ pub returns-then-no-ne0 : goal.returns-then-no-ne0
 unfolding start
 returns-then-no-ne0 c =
     let lent : BothTables =
-        both c.args.tables.now c.args.guarded.now in
+    both c.args.tables.now c.args.guarded.now in
     let row_is : c.start_row-row.result.now ≡ start_row lent c.args.q =
-        c.start_row-row.ensures in
+    c.start_row-row.ensures in
     let tested : c.start_sound.result ≡ start_sound (edition_of c.args.q) (start_row lent c.args.q) =
-        c.start_sound.ensures
+    c.start_sound.ensures
     ∙ ap (λ e. start_sound e c.start_row-row.result.now) c.edition_of.ensures
     ∙ ap (start_sound (edition_of c.args.q)) row_is in
     let tests-are : c.start_refusal-no.result
     ≡ lowest (start_tests c.args.spoilt c.args.p c.args.q c.args.depth (state_of c.args.k) lent) =
-        c.start_refusal-no.ensures
+    c.start_refusal-no.ensures
     ∙ start_tests_lem c.args.k c.args.spoilt c.args.p c.args.q c.args.depth 0 lent _ _ _ _ _
     c.slot_bad.ensures
     c.is_open.ensures
@@ -42,16 +42,16 @@ returns-then-no-ne0 c =
 pub bounds-row-0 : goal.bounds-row-0
 bounds-row-0 c =
     let lent : BothTables =
-        both c.args.tables.now c.args.guarded.now in
+    both c.args.tables.now c.args.guarded.now in
     let row_is : c.start_row-row.result.now ≡ start_row lent c.args.q =
-        c.start_row-row.ensures in
+    c.start_row-row.ensures in
     let tested : c.start_sound.result ≡ start_sound (edition_of c.args.q) (start_row lent c.args.q) =
-        c.start_sound.ensures
+    c.start_sound.ensures
     ∙ ap (λ e. start_sound e c.start_row-row.result.now) c.edition_of.ensures
     ∙ ap (start_sound (edition_of c.args.q)) row_is in
     let tests-are : c.start_refusal-no.result
     ≡ lowest (start_tests c.args.spoilt c.args.p c.args.q c.args.depth (state_of c.args.k) lent) =
-        c.start_refusal-no.ensures
+    c.start_refusal-no.ensures
     ∙ start_tests_lem c.args.k c.args.spoilt c.args.p c.args.q c.args.depth 0 lent _ _ _ _ _
     c.slot_bad.ensures
     c.is_open.ensures
@@ -59,23 +59,23 @@ bounds-row-0 c =
     c.of_object.ensures.0
     tested in
     let allowed : c.start_refusal-no.result ≡ 0 → Startable c.args.p c.args.q c.args.depth c.start_row-row.result.now =
-        λ z. startable c.args.k c.args.spoilt c.args.p c.args.q c.args.depth _ lent _ row_is tests-are z in
+    λ z. startable c.args.k c.args.spoilt c.args.p c.args.q c.args.depth _ lent _ row_is tests-are z in
     let h = allowed c.if-no-ne0.false in
     omega (arith, h.sound.whole)
 
 pub started_at-requires : goal.started_at-requires
 started_at-requires c =
     let lent : BothTables =
-        both c.args.tables.now c.args.guarded.now in
+    both c.args.tables.now c.args.guarded.now in
     let row_is : c.start_row-row.result.now ≡ start_row lent c.args.q =
-        c.start_row-row.ensures in
+    c.start_row-row.ensures in
     let tested : c.start_sound.result ≡ start_sound (edition_of c.args.q) (start_row lent c.args.q) =
-        c.start_sound.ensures
+    c.start_sound.ensures
     ∙ ap (λ e. start_sound e c.start_row-row.result.now) c.edition_of.ensures
     ∙ ap (start_sound (edition_of c.args.q)) row_is in
     let tests-are : c.start_refusal-no.result
     ≡ lowest (start_tests c.args.spoilt c.args.p c.args.q c.args.depth (state_of c.args.k) lent) =
-        c.start_refusal-no.ensures
+    c.start_refusal-no.ensures
     ∙ start_tests_lem c.args.k c.args.spoilt c.args.p c.args.q c.args.depth 0 lent _ _ _ _ _
     c.slot_bad.ensures
     c.is_open.ensures
@@ -83,23 +83,23 @@ started_at-requires c =
     c.of_object.ensures.0
     tested in
     let allowed : c.start_refusal-no.result ≡ 0 → Startable c.args.p c.args.q c.args.depth c.start_row-row.result.now =
-        λ z. startable c.args.k c.args.spoilt c.args.p c.args.q c.args.depth _ lent _ row_is tests-are z in
+    λ z. startable c.args.k c.args.spoilt c.args.p c.args.q c.args.depth _ lent _ row_is tests-are z in
     let h = allowed c.if-no-ne0.false in
     (h.low, h.high, h.slot, h.deep)
 
 pub overflow_cast-p : goal.overflow_cast-p
 overflow_cast-p c =
     let lent : BothTables =
-        both c.args.tables.now c.args.guarded.now in
+    both c.args.tables.now c.args.guarded.now in
     let row_is : c.start_row-row.result.now ≡ start_row lent c.args.q =
-        c.start_row-row.ensures in
+    c.start_row-row.ensures in
     let tested : c.start_sound.result ≡ start_sound (edition_of c.args.q) (start_row lent c.args.q) =
-        c.start_sound.ensures
+    c.start_sound.ensures
     ∙ ap (λ e. start_sound e c.start_row-row.result.now) c.edition_of.ensures
     ∙ ap (start_sound (edition_of c.args.q)) row_is in
     let tests-are : c.start_refusal-no.result
     ≡ lowest (start_tests c.args.spoilt c.args.p c.args.q c.args.depth (state_of c.args.k) lent) =
-        c.start_refusal-no.ensures
+    c.start_refusal-no.ensures
     ∙ start_tests_lem c.args.k c.args.spoilt c.args.p c.args.q c.args.depth 0 lent _ _ _ _ _
     c.slot_bad.ensures
     c.is_open.ensures
@@ -107,23 +107,23 @@ overflow_cast-p c =
     c.of_object.ensures.0
     tested in
     let allowed : c.start_refusal-no.result ≡ 0 → Startable c.args.p c.args.q c.args.depth c.start_row-row.result.now =
-        λ z. startable c.args.k c.args.spoilt c.args.p c.args.q c.args.depth _ lent _ row_is tests-are z in
+    λ z. startable c.args.k c.args.spoilt c.args.p c.args.q c.args.depth _ lent _ row_is tests-are z in
     let h = allowed c.if-no-ne0.false in
     omega (arith, h.high)
 
 pub ran-requires : goal.ran-requires
 ran-requires c =
     let lent : BothTables =
-        both c.args.tables.now c.args.guarded.now in
+    both c.args.tables.now c.args.guarded.now in
     let row_is : c.start_row-row.result.now ≡ start_row lent c.args.q =
-        c.start_row-row.ensures in
+    c.start_row-row.ensures in
     let tested : c.start_sound.result ≡ start_sound (edition_of c.args.q) (start_row lent c.args.q) =
-        c.start_sound.ensures
+    c.start_sound.ensures
     ∙ ap (λ e. start_sound e c.start_row-row.result.now) c.edition_of.ensures
     ∙ ap (start_sound (edition_of c.args.q)) row_is in
     let tests-are : c.start_refusal-no.result
     ≡ lowest (start_tests c.args.spoilt c.args.p c.args.q c.args.depth (state_of c.args.k) lent) =
-        c.start_refusal-no.ensures
+    c.start_refusal-no.ensures
     ∙ start_tests_lem c.args.k c.args.spoilt c.args.p c.args.q c.args.depth 0 lent _ _ _ _ _
     c.slot_bad.ensures
     c.is_open.ensures
@@ -131,7 +131,7 @@ ran-requires c =
     c.of_object.ensures.0
     tested in
     let allowed : c.start_refusal-no.result ≡ 0 → Startable c.args.p c.args.q c.args.depth c.start_row-row.result.now =
-        λ z. startable c.args.k c.args.spoilt c.args.p c.args.q c.args.depth _ lent _ row_is tests-are z in
+    λ z. startable c.args.k c.args.spoilt c.args.p c.args.q c.args.depth _ lent _ row_is tests-are z in
     let h = allowed c.if-no-ne0.false in
     record { row_len = (h.sound.whole, h.sound.outcome, search rules); row_value = row_of_answer _ _ h.sound }
 
@@ -139,16 +139,16 @@ pub returns : goal.returns
 unfolding answer_of answered start
 returns c =
     let lent : BothTables =
-        both c.args.tables.now c.args.guarded.now in
+    both c.args.tables.now c.args.guarded.now in
     let row_is : c.start_row-row.result.now ≡ start_row lent c.args.q =
-        c.start_row-row.ensures in
+    c.start_row-row.ensures in
     let tested : c.start_sound.result ≡ start_sound (edition_of c.args.q) (start_row lent c.args.q) =
-        c.start_sound.ensures
+    c.start_sound.ensures
     ∙ ap (λ e. start_sound e c.start_row-row.result.now) c.edition_of.ensures
     ∙ ap (start_sound (edition_of c.args.q)) row_is in
     let tests-are : c.start_refusal-no.result
     ≡ lowest (start_tests c.args.spoilt c.args.p c.args.q c.args.depth (state_of c.args.k) lent) =
-        c.start_refusal-no.ensures
+    c.start_refusal-no.ensures
     ∙ start_tests_lem c.args.k c.args.spoilt c.args.p c.args.q c.args.depth 0 lent _ _ _ _ _
     c.slot_bad.ensures
     c.is_open.ensures

@@ -19,7 +19,7 @@ unfolding arm
 returns-then-no-ne0 c =
     let tests-are : let a = c.args in
     c.arm_refusal-no.result ≡ lowest (arm_tests a.spoilt a.t a.p a.g a.ticks (state_of a.k)) =
-        let a = c.args in
+    let a = c.args in
     c.arm_refusal-no.ensures
     ∙ arm_tests_lem a.spoilt a.t a.p a.g a.ticks a.k _ _ c.of_object-started.ensures.0 c.counter_of-armed.ensures in
     λ z. refusal _ _ _ _ z _ tests-are c.if-no-ne0.true c.refuse.ensures
@@ -28,11 +28,11 @@ pub overflow_cast-p : goal.overflow_cast-p
 overflow_cast-p c =
     let tests-are : let a = c.args in
     c.arm_refusal-no.result ≡ lowest (arm_tests a.spoilt a.t a.p a.g a.ticks (state_of a.k)) =
-        let a = c.args in
+    let a = c.args in
     c.arm_refusal-no.ensures
     ∙ arm_tests_lem a.spoilt a.t a.p a.g a.ticks a.k _ _ c.of_object-started.ensures.0 c.counter_of-armed.ensures in
     let allowed : let a = c.args in (a.t < timers) × (a.p ≤ objects) =
-        let a = c.args in
+    let a = c.args in
     arm_allowed a.spoilt a.t a.p a.g a.ticks (state_of a.k) (rw (← tests-are) c.if-no-ne0.false) in
     let h = allowed in omega (arith, h.1)
 
@@ -40,11 +40,11 @@ pub arm_timer-requires : goal.arm_timer-requires
 arm_timer-requires c =
     let tests-are : let a = c.args in
     c.arm_refusal-no.result ≡ lowest (arm_tests a.spoilt a.t a.p a.g a.ticks (state_of a.k)) =
-        let a = c.args in
+    let a = c.args in
     c.arm_refusal-no.ensures
     ∙ arm_tests_lem a.spoilt a.t a.p a.g a.ticks a.k _ _ c.of_object-started.ensures.0 c.counter_of-armed.ensures in
     let allowed : let a = c.args in (a.t < timers) × (a.p ≤ objects) =
-        let a = c.args in
+    let a = c.args in
     arm_allowed a.spoilt a.t a.p a.g a.ticks (state_of a.k) (rw (← tests-are) c.if-no-ne0.false) in
     allowed.0
 
@@ -53,7 +53,7 @@ unfolding answered arm
 returns c =
     let tests-are : let a = c.args in
     c.arm_refusal-no.result ≡ lowest (arm_tests a.spoilt a.t a.p a.g a.ticks (state_of a.k)) =
-        let a = c.args in
+    let a = c.args in
     c.arm_refusal-no.ensures
     ∙ arm_tests_lem a.spoilt a.t a.p a.g a.ticks a.k _ _ c.of_object-started.ensures.0 c.counter_of-armed.ensures in
     λ z. doing _ _ _ _ z _ tests-are c.if-no-ne0.false (rw (c.arm_timer.ensures, c.done.ensures) refl)

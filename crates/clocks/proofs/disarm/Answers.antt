@@ -11,7 +11,7 @@ pub returns-then-no-ne0 : goal.returns-then-no-ne0
 unfolding disarm disarm_tests
 returns-then-no-ne0 c =
     let tests-are : c.disarm_refusal-no.result ≡ lowest (disarm_tests c.args.spoilt c.args.t) =
-        c.disarm_refusal-no.ensures in
+    c.disarm_refusal-no.ensures in
     λ z. refusal _ _ _ _ z _ tests-are c.if-no-ne0.true c.refuse.ensures
 
 pub counter_of-armed-requires : goal.counter_of-armed-requires
@@ -22,13 +22,13 @@ pub disarm_timer-requires : goal.disarm_timer-requires
 unfolding disarm_tests
 disarm_timer-requires c =
     let tests-are : c.disarm_refusal-no.result ≡ lowest (disarm_tests c.args.spoilt c.args.t) =
-        c.disarm_refusal-no.ensures in
+    c.disarm_refusal-no.ensures in
     disarm_allowed c.args.spoilt c.args.t (rw (← tests-are) c.if-no-ne0.false)
 
 pub returns : goal.returns
 unfolding answered disarm disarm_tests state_of
 returns c =
     let tests-are : c.disarm_refusal-no.result ≡ lowest (disarm_tests c.args.spoilt c.args.t) =
-        c.disarm_refusal-no.ensures in
+    c.disarm_refusal-no.ensures in
     λ z. doing _ _ _ _ z _ tests-are c.if-no-ne0.false
     (rw (c.disarm_timer.ensures, c.done.ensures, c.one.ensures.0, c.counter_of-armed.ensures) refl)

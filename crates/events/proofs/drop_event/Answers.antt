@@ -11,7 +11,7 @@ unfolding drop_event drop_tests state_of
 returns-then-no-ne0 c =
     let tests-are : let a = c.args in
     c.handle_refusal-no.result ≡ lowest (drop_tests a.spoilt a.b a.generation (state_of a.k)) =
-        c.handle_refusal-no.ensures ∙ rw (c.stale-stale.ensures, c.drop_new-gone.ensures.frees.answer) refl in
+    c.handle_refusal-no.ensures ∙ rw (c.stale-stale.ensures, c.drop_new-gone.ensures.frees.answer) refl in
     λ z. refusal _ _ _ _ z _ tests-are c.if-no-ne0.true c.refuse.ensures
 
 pub returns : goal.returns
@@ -19,6 +19,6 @@ unfolding answered drop_event drop_tests state_of
 returns c =
     let tests-are : let a = c.args in
     c.handle_refusal-no.result ≡ lowest (drop_tests a.spoilt a.b a.generation (state_of a.k)) =
-        c.handle_refusal-no.ensures ∙ rw (c.stale-stale.ensures, c.drop_new-gone.ensures.frees.answer) refl in
+    c.handle_refusal-no.ensures ∙ rw (c.stale-stale.ensures, c.drop_new-gone.ensures.frees.answer) refl in
     λ z. doing _ _ _ _ z _ tests-are c.if-no-ne0.false
     (rw (c.with_pool.ensures, c.drop_new-gone.ensures.frees.row, c.drop_new-gone.ensures.pool_value, c.done.ensures) refl)

@@ -15,8 +15,8 @@ unfolding publish publish_tests state_of
 returns-then-no-ne0 c =
     let signal-is : let a = c.args in
     c.wide-g.result ≡ get_or a.k.signals a.b 0 =
-        c.wide-g.ensures.0 ∙ c.byte_at.ensures in
-    let full_is : 
+    c.wide-g.ensures.0 ∙ c.byte_at.ensures in
+    let full_is :
     c.any_full-full.result ≡ full_receiver (state_of c.args.k) c.wide-g.result objects =
     c.any_full-full.ensures (state_of c.args.k) (kernel_reads c.args.k) in
     let tests-are : let a = c.args in
@@ -29,10 +29,10 @@ unfolding state_of
 publish_done-requires c =
     let signal-is : let a = c.args in
     c.wide-g.result ≡ get_or a.k.signals a.b 0 =
-        c.wide-g.ensures.0 ∙ c.byte_at.ensures in
+    c.wide-g.ensures.0 ∙ c.byte_at.ensures in
     let full_is : let w = c in
     c.any_full-full.result ≡ full_receiver (state_of w.args.k) w.wide-g.result objects =
-        let s = c in
+    let s = c in
     c.any_full-full.ensures (state_of s.args.k) (kernel_reads s.args.k) in
     let s = c in
     let w = c in
@@ -44,14 +44,14 @@ unfolding publish publish_tests state_of
 returns c =
     let signal-is : let a = c.args in
     c.wide-g.result ≡ get_or a.k.signals a.b 0 =
-        c.wide-g.ensures.0 ∙ c.byte_at.ensures in
+    c.wide-g.ensures.0 ∙ c.byte_at.ensures in
     let full_is : let w = c in
     c.any_full-full.result ≡ full_receiver (state_of w.args.k) w.wide-g.result objects =
-        let s = c in
+    let s = c in
     c.any_full-full.ensures (state_of s.args.k) (kernel_reads s.args.k) in
     let tests-are : let a = c.args in
     c.handle_refusal-no.result ≡ lowest (publish_tests a.spoilt a.b a.generation (state_of a.k)) =
-        let t = c in
+    let t = c in
     c.handle_refusal-no.ensures ∙ rw (t.stale-stale.ensures, full_is, signal-is) refl in
     let w = c in
     λ z. doing _ _ _ _ z _ tests-are c.if-no-ne0.false (rw (← signal-is) (c.publish_done.ensures z))

@@ -16,25 +16,25 @@ unfolding release release_tests state_of
 returns-then-no-ne0 c =
     let tests-are : let a = c.args in
     c.handle_refusal-no.result ≡ lowest (release_tests a.spoilt a.b a.generation (state_of a.k)) =
-        c.handle_refusal-no.ensures ∙ rw (c.stale-stale.ensures, c.byte_at-n.ensures) refl in
+    c.handle_refusal-no.ensures ∙ rw (c.stale-stale.ensures, c.byte_at-n.ensures) refl in
     λ z. refusal _ _ _ _ z _ tests-are c.if-no-ne0.true c.refuse.ensures
 
 pub overflow_sub-n : goal.overflow_sub-n
 overflow_sub-n c =
     let allowed : (c.args.b < blocks) × (c.byte_at-n.result ≡ 0 → ⊥) =
-        let h = handle_allowed _ _ _ _ _ _ refl c.handle_refusal-no.ensures c.if-no-ne0.false in (h.block, eqb-false _ _ h.passed) in
+    let h = handle_allowed _ _ _ _ _ _ refl c.handle_refusal-no.ensures c.if-no-ne0.false in (h.block, eqb-false _ _ h.passed) in
     let h = allowed in omega arith
 
 pub with_holds-requires : goal.with_holds-requires
 with_holds-requires c =
     let allowed : (c.args.b < blocks) × (c.byte_at-n.result ≡ 0 → ⊥) =
-        let h = handle_allowed _ _ _ _ _ _ refl c.handle_refusal-no.ensures c.if-no-ne0.false in (h.block, eqb-false _ _ h.passed) in
+    let h = handle_allowed _ _ _ _ _ _ refl c.handle_refusal-no.ensures c.if-no-ne0.false in (h.block, eqb-false _ _ h.passed) in
     allowed.0
 
 pub overflow_sub-n-2 : goal.overflow_sub-n-2
 overflow_sub-n-2 c =
     let allowed : (c.args.b < blocks) × (c.byte_at-n.result ≡ 0 → ⊥) =
-        let h = handle_allowed _ _ _ _ _ _ refl c.handle_refusal-no.ensures c.if-no-ne0.false in (h.block, eqb-false _ _ h.passed) in
+    let h = handle_allowed _ _ _ _ _ _ refl c.handle_refusal-no.ensures c.if-no-ne0.false in (h.block, eqb-false _ _ h.passed) in
     let h = allowed in omega arith
 
 pub returns : goal.returns
@@ -42,7 +42,7 @@ unfolding answered release release_tests released state_of
 returns c =
     let tests-are : let a = c.args in
     c.handle_refusal-no.result ≡ lowest (release_tests a.spoilt a.b a.generation (state_of a.k)) =
-        c.handle_refusal-no.ensures ∙ rw (c.stale-stale.ensures, c.byte_at-n.ensures) refl in
+    c.handle_refusal-no.ensures ∙ rw (c.stale-stale.ensures, c.byte_at-n.ensures) refl in
     let gone = c.let_go-gone.ensures in
     λ z. doing _ _ _ _ z _ tests-are c.if-no-ne0.false
     (rw (c.with_holds.ensures, gone.frees.row, gone.pool_value, c.done.ensures, c.one.ensures.0, gone.frees.answer, c.byte_at-n.ensures) refl)

@@ -1,8 +1,6 @@
-use borrow.Author.Rules.{rules}
 use mathlib.Core.Bool.{cond}
 use mathlib.Core.Path.{◌≡◌, sym, ap, ◌∙◌}
 use native.Mathlib.Omega.{arith}
-use Rattle.ground.specs.Bools.{refused, passed}
 use Rattle.chart.specs.Chart.{class_of}
 use Rattle.chart.proofs.Accepted.{at_most, few}
 use Rattle.chart.proofs.Laws.{states_le}
@@ -43,7 +41,7 @@ pub returns-then-rows_ok : goal.returns-then-rows_ok
 unfolding class_of
 returns-then-rows_ok c =
     let rows_left : let from = c.args in class_of from.e from.chart.now ≡ cond c.rows_ok.result 0 4 =
-        simp (
+    simp (
       sym c.length_ok.ensures ∙ c.if-not-length_ok.false,
       ← c.state_count-n.ensures,
       sym c.forms_ok.ensures ∙ c.if-not-forms_ok.false,
@@ -56,7 +54,7 @@ pub returns-else-rows_ok : goal.returns-else-rows_ok
 unfolding class_of
 returns-else-rows_ok c =
     let rows_left : let from = c.args in class_of from.e from.chart.now ≡ cond c.rows_ok.result 0 4 =
-        simp (
+    simp (
       sym c.length_ok.ensures ∙ c.if-not-length_ok.false,
       ← c.state_count-n.ensures,
       sym c.forms_ok.ensures ∙ c.if-not-forms_ok.false,

@@ -1,4 +1,3 @@
-use Rattle.std.proofs.Common.{rules}
 use Rattle.frame.specs.Wire.{following}
 use Rattle.frame.proofs.next_number.Goals as goal
 

@@ -1,4 +1,4 @@
-use Rattle.std.proofs.Common.{◌≡◌, ◌-◌, ◌%◌, ◌≤◌, take, refl, ◌∙◌, arith, rules}
+use Rattle.std.proofs.Common.{◌≡◌, refl, ◌∙◌, arith}
 use Rattle.frame.specs.Wire.{sum}
 use Rattle.frame.proofs.Sending.{sum-turn}
 use Rattle.frame.proofs.sum_of.Goals as goal

@@ -1,6 +1,5 @@
-use Rattle.std.proofs.Common.{◌≡◌, ◌-◌, ◌%◌, ◌≤◌, take, refl, ◌∙◌, arith, rules}
+use Rattle.std.proofs.Common.{◌≡◌, ◌-◌, ◌%◌, ◌≤◌, take}
 use Rattle.frame.specs.Wire.{sum}
-use Rattle.frame.proofs.Sending.{sum-turn}
 use Rattle.frame.proofs.sum_of.Given as goal
 
 -- The first i bytes are summed.

@@ -1,7 +1,5 @@
-use borrow.Author.Rules.{rules}
-use mathlib.Core.Path.{◌≡◌, refl, sym, ◌∙◌}
+use mathlib.Core.Path.{refl, sym, ◌∙◌}
 use native.Mathlib.Omega.{arith}
-use Prim.Native.Nat.{◌-◌}
 use Rattle.ground.specs.Bytes.{blank}
 use Rattle.ground.specs.Every.{every_done}
 use Rattle.ground.specs.Words.{begins_zero, begins_other, zero-at}

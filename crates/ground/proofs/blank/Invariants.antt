@@ -1,10 +1,6 @@
-use borrow.Author.Rules.{rules}
-use mathlib.Core.Path.{◌≡◌, refl, sym, ◌∙◌}
-use native.Mathlib.Omega.{arith}
+use mathlib.Core.Path.{◌≡◌}
 use Prim.Native.Nat.{◌-◌}
 use Rattle.ground.specs.Bytes.{blank}
-use Rattle.ground.specs.Every.{every_done}
-use Rattle.ground.specs.Words.{begins_zero, begins_other, zero-at}
 use Rattle.ground.proofs.blank.Given as goal
 
 abbrev pub invariant-loop-j : goal.invariant-loop-j

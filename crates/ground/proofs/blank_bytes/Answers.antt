@@ -1,10 +1,7 @@
-use borrow.Author.Rules.{rules}
 use borrow.Author.Tests.{eq-eqb, ne_eqb}
-use mathlib.Core.Path.{◌≡◌, refl, sym, ◌∙◌}
-use Prim.Native.Nat.{◌-◌}
+use mathlib.Core.Path.{refl, sym, ◌∙◌}
 use Rattle.ground.specs.Bytes.{blank}
 use Rattle.ground.specs.Every.{every_done, every_pass, every_fail}
-use Rattle.ground.specs.Range.{every}
 use Rattle.ground.specs.Words.{zero-at}
 use Rattle.ground.proofs.blank_bytes.Goals as goal
 

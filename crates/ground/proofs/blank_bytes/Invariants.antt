@@ -1,9 +1,6 @@
-use borrow.Author.Rules.{rules}
-use borrow.Author.Tests.{eq-eqb, ne_eqb}
-use mathlib.Core.Path.{◌≡◌, refl, sym, ◌∙◌}
+use mathlib.Core.Path.{◌≡◌}
 use Prim.Native.Nat.{◌-◌}
 use Rattle.ground.specs.Bytes.{blank}
-use Rattle.ground.specs.Every.{every_done, every_pass, every_fail}
 use Rattle.ground.specs.Range.{every}
 use Rattle.ground.specs.Words.{zero-at}
 use Rattle.ground.proofs.blank_bytes.Given as goal

@@ -1,4 +1,3 @@
-use borrow.Author.Rules.{rules}
 use borrow.Author.Tests.{eq-eqb, ne_eqb}
 use mathlib.Core.Path.{◌≡◌, refl, sym, ap, ◌∙◌}
 use Prim.Native.Nat.{◌+◌, ◌*◌, ◌-◌, ◌<◌}
@@ -38,8 +37,12 @@ returns c =
     let t = take n (drop at l) in
     let long = slot_long q at n l plain c.requires.1 refl cut in
     let class = f.0 ∙ table_class Plain d t long in
-    rw (ne_eqb q guarded_slot other) record { value = class; guarded_after = λ e.
-            let full = f.1 ∙ table_filled Plain d t long (sym class ∙ e) in
-            rw full (ap (λ x. record { plain = x; guarded = c.args.guarded.now }) (slot-over q at n l plain c.requires.1 refl cut _ (slot_size_lem Plain d))); guarded_unchanged = λ ne.
-            let same = f.1 ∙ table_left Plain d t long (λ e. ne (class ∙ e)) in
-            rw same (ap (λ x. record { plain = x; guarded = c.args.guarded.now }) (slot-left q at n l plain c.requires.1 refl cut)) }
+    rw (ne_eqb q guarded_slot other) record {
+      value = class;
+      guarded_after = λ e.
+          let full = f.1 ∙ table_filled Plain d t long (sym class ∙ e) in
+          rw full (ap (λ x. record { plain = x; guarded = c.args.guarded.now }) (slot-over q at n l plain c.requires.1 refl cut _ (slot_size_lem Plain d)));
+      guarded_unchanged = λ ne.
+          let same = f.1 ∙ table_left Plain d t long (λ e. ne (class ∙ e)) in
+          rw same (ap (λ x. record { plain = x; guarded = c.args.guarded.now }) (slot-left q at n l plain c.requires.1 refl cut));
+    }

@@ -1,4 +1,3 @@
-use borrow.Author.Rules.{rules}
 use Rattle.mail.proofs.Store.{all_left}
 use Rattle.mail.proofs.empty.Goals as goal
 

@@ -1,4 +1,3 @@
-use borrow.Author.Rules.{rules}
 use Rattle.mail.proofs.Store.{entry_is}
 use Rattle.mail.proofs.entry.Goals as goal
 

@@ -1,4 +1,3 @@
-use borrow.Author.Rules.{rules}
 use Rattle.mail.proofs.Store.{first_entry}
 use Rattle.mail.proofs.front.Goals as goal
 

@@ -1,4 +1,3 @@
-use borrow.Author.Rules.{rules}
 use borrow.Author.Tests.{eq-eqb, ne_eqb, lt-ltb, le-ltb}
 use Rattle.mail.specs.Entry.{hand_of}
 use Rattle.mail.proofs.hand_of.Goals as goal

@@ -1,4 +1,3 @@
-use borrow.Author.Rules.{rules}
 use Rattle.mail.proofs.Store.{took_first_lem}
 use Rattle.mail.proofs.leave.Goals as goal
 

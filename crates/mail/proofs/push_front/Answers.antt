@@ -1,4 +1,3 @@
-use borrow.Author.Rules.{rules}
 use mathlib.Core.Path.{refl}
 use Rattle.mail.proofs.Store.{pushed_front}
 use Rattle.mail.proofs.push_front.Goals as goal

@@ -1,4 +1,3 @@
-use borrow.Author.Rules.{rules}
 use mathlib.Core.Path.{refl}
 use Rattle.mail.proofs.Store.{first_entry, took_front_lem}
 use Rattle.mail.proofs.take_front.Goals as goal

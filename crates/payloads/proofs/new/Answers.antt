@@ -18,30 +18,30 @@ pub returns-then-no-ne0 : goal.returns-then-no-ne0
 unfolding new state_of
 returns-then-no-ne0 c =
     let b : ℕ =
-        c.in-At.b in
+    c.in-At.b in
     let n : ℕ =
-        c.wide-n.result in
+    c.wide-n.result in
     let is_found : At b ≡ found (cells c.args.k.pool) n =
-        sym c.in-At.is ∙ c.take-taken.ensures.answer in
+    sym c.in-At.is ∙ c.take-taken.ensures.answer in
     let is-size : n ≡ c.args.size =
-        c.wide-n.ensures.0 in
+    c.wide-n.ensures.0 in
     let tests-are : c.new_refusal-no.result ≡ lowest (new_tests c.args.spoilt c.args.g c.args.size (state_of c.args.k) c.args.payloads.now) =
-        c.new_refusal-no.ensures ∙ tests_found (state_of c.args.k) c.args.spoilt c.args.payloads.now _ _ _ _ c.wide-in-At.ensures.0 is-size b is_found in
+    c.new_refusal-no.ensures ∙ tests_found (state_of c.args.k) c.args.spoilt c.args.payloads.now _ _ _ _ c.wide-in-At.ensures.0 is-size b is_found in
     λ t u l. refusal _ _ _ _ (areas _ t u l) _ tests-are c.if-no-ne0.true c.refuse-then-no-ne0.ensures
 
 pub new_in-requires : goal.new_in-requires
 unfolding state_of
 new_in-requires c =
     let b : ℕ =
-        c.in-At.b in
+    c.in-At.b in
     let n : ℕ =
-        c.wide-n.result in
+    c.wide-n.result in
     let is_found : At b ≡ found (cells c.args.k.pool) n =
-        sym c.in-At.is ∙ c.take-taken.ensures.answer in
+    sym c.in-At.is ∙ c.take-taken.ensures.answer in
     let is-size : n ≡ c.args.size =
-        c.wide-n.ensures.0 in
+    c.wide-n.ensures.0 in
     let allowed : c.new_refusal-no.result ≡ 0 → (b < blocks) × (c.args.size ≤ most_bytes) × (length c.args.payloads.now ≡ payload_bytes) =
-        λ z. found_allowed (state_of c.args.k) c.args.spoilt c.args.payloads.now _ _ _ _ c.wide-in-At.ensures.0 is-size b is_found (sym c.new_refusal-no.ensures ∙ z) in
+    λ z. found_allowed (state_of c.args.k) c.args.spoilt c.args.payloads.now _ _ _ _ c.wide-in-At.ensures.0 is-size b is_found (sym c.new_refusal-no.ensures ∙ z) in
     let h = allowed c.if-no-ne0.false in
     let take = c.take-taken.ensures in
     record { b_lt_blocks = (h.0, omega (arith, h.1, c.requires), h.2, taken-row _ _ _ _ is_found take.row); pool_value = (taken-marks _ _ _ _ _ _ is_found is-size take.marks, rw (← is-size) take.mark) }
@@ -63,17 +63,17 @@ pub returns-else-no-ne0 : goal.returns-else-no-ne0
 unfolding new state_of
 returns-else-no-ne0 c =
     let b : ℕ =
-        c.in-At.b in
+    c.in-At.b in
     let n : ℕ =
-        c.wide-n.result in
+    c.wide-n.result in
     let is_found : At b ≡ found (cells c.args.k.pool) n =
-        sym c.in-At.is ∙ c.take-taken.ensures.answer in
+    sym c.in-At.is ∙ c.take-taken.ensures.answer in
     let is-size : n ≡ c.args.size =
-        c.wide-n.ensures.0 in
+    c.wide-n.ensures.0 in
     let tests-are : c.new_refusal-no.result ≡ lowest (new_tests c.args.spoilt c.args.g c.args.size (state_of c.args.k) c.args.payloads.now) =
-        c.new_refusal-no.ensures ∙ tests_found (state_of c.args.k) c.args.spoilt c.args.payloads.now _ _ _ _ c.wide-in-At.ensures.0 is-size b is_found in
+    c.new_refusal-no.ensures ∙ tests_found (state_of c.args.k) c.args.spoilt c.args.payloads.now _ _ _ _ c.wide-in-At.ensures.0 is-size b is_found in
     let size-found : found (state_of c.args.k).cells c.args.size ≡ At b =
-        found_size (state_of c.args.k) c.args.spoilt c.args.payloads.now _ _ _ _ c.wide-in-At.ensures.0 is-size b is_found in
+    found_size (state_of c.args.k) c.args.spoilt c.args.payloads.now _ _ _ _ c.wide-in-At.ensures.0 is-size b is_found in
     λ t u l.
     writing _ _ _ _ (areas c.args.payloads.now t u l) _ tests-are (areas _ t u l) c.if-no-ne0.false
     (rw size-found (c.new_in.ensures t u l))

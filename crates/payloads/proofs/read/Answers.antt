@@ -14,13 +14,13 @@ pub payload_in-requires : goal.payload_in-requires
 unfolding state_of
 payload_in-requires c =
     let allowed : let a = c.args in Readable (state_of a.k) a.b a.payloads.now =
-        readable _ _ _ _ _ _ c.requires c.read_no-no.ensures c.if-no-ne0.false in
+    readable _ _ _ _ _ _ c.requires c.read_no-no.ensures c.if-no-ne0.false in
     (allowed.block, allowed.within)
 
 pub shown-requires : goal.shown-requires
 shown-requires c =
     let allowed : let a = c.args in Readable (state_of a.k) a.b a.payloads.now =
-        readable _ _ _ _ _ _ c.requires c.read_no-no.ensures c.if-no-ne0.false in
+    readable _ _ _ _ _ _ c.requires c.read_no-no.ensures c.if-no-ne0.false in
     rw c.payload_in.ensures allowed.short
 
 pub returns : goal.returns

@@ -1,4 +1,3 @@
-use borrow.Author.Rules.{rules}
 use Rattle.pool.specs.Cell.{more_by}
 use Rattle.pool.proofs.add.Goals as goal
 

@@ -27,5 +27,8 @@ overflow_cast-q c = omega (arith, c.least.ensures)
 pub returns : goal.returns
 unfolding cells marks
 returns c =
-    record { result_value = stored-count _ _ _ _ (more_by _) c.if-b-ge-BLOCKS.false c.has.ensures c.if-has.false _ (search rules)
-          (rw (c.least.ensures, c.wide.ensures.0) (more_some _ _ c.if-held-ge-MOST.false _)); result_value_2 = refl }
+    record {
+      result_value = stored-count _ _ _ _ (more_by _) c.if-b-ge-BLOCKS.false c.has.ensures c.if-has.false _ (search rules)
+          (rw (c.least.ensures, c.wide.ensures.0) (more_some _ _ c.if-held-ge-MOST.false _));
+      result_value_2 = refl;
+    }

@@ -1,4 +1,3 @@
-use borrow.Author.Rules.{rules}
 use mathlib.Core.Path.{refl, sym, ◌∙◌}
 use Rattle.pool.specs.Cell.{dropped, is_new}
 use Rattle.pool.specs.Inside.{cell_of}
@@ -25,5 +24,8 @@ go_back-requires c =
 
 pub returns : goal.returns
 returns c =
-    let went = c.go_back.ensures in record { frees = frees_it _ _ _ _ dropped is_new c.if-b-ge-BLOCKS.false c.has.ensures c.if-has.false _ went.free_after
-          (dropped-new _ _ c.if-counts-b-ne-NEW.false); sized = went.sized }
+    let went = c.go_back.ensures in record {
+      frees = frees_it _ _ _ _ dropped is_new c.if-b-ge-BLOCKS.false c.has.ensures c.if-has.false _ went.free_after
+          (dropped-new _ _ c.if-counts-b-ne-NEW.false);
+      sized = went.sized;
+    }

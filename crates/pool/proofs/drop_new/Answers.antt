@@ -1,4 +1,3 @@
-use borrow.Author.Rules.{rules}
 use Rattle.pool.specs.Inside.{cells}
 use Rattle.pool.proofs.drop_new.Goals as goal
 

@@ -1,4 +1,3 @@
-use borrow.Author.Rules.{rules}
 use mathlib.Core.Path.{refl}
 use Rattle.pool.specs.Cell.{generation_of}
 use Rattle.pool.specs.Row.{generation_at}

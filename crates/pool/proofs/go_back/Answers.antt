@@ -1,4 +1,3 @@
-use borrow.Author.Rules.{rules}
 use mathlib.Core.Path.{ap, ◌∙◌}
 use Rattle.pool.specs.Inside.{row_of}
 use Rattle.pool.proofs.Store.{freed_now, freed_not}

@@ -1,11 +1,7 @@
 use borrow.Author.Rules.{rules}
-use mathlib.Core.Path.{◌≡◌, refl, sym, ◌∙◌}
-use Prim.Native.Nat.{◌-◌}
-use lib.ListN.{length, drop}
-use Rattle.bits.specs.Members.{members}
-use Rattle.pool.specs.Inside.{cells, row_of, Sized}
+use mathlib.Core.Path.{refl, sym, ◌∙◌}
+use Rattle.pool.specs.Inside.{cells}
 use Rattle.pool.specs.Laws.{gone_turn, gone_end}
-use Rattle.pool.specs.Row.{gone_all}
 use Rattle.pool.proofs.let_go_all.Goals as goal
 
 pub loop-i-init : goal.loop-i-init

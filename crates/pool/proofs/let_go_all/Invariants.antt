@@ -1,10 +1,8 @@
-use borrow.Author.Rules.{rules}
-use mathlib.Core.Path.{◌≡◌, refl, sym, ◌∙◌}
+use mathlib.Core.Path.{◌≡◌}
 use Prim.Native.Nat.{◌-◌}
 use lib.ListN.{length, drop}
 use Rattle.bits.specs.Members.{members}
-use Rattle.pool.specs.Inside.{cells, row_of, Sized}
-use Rattle.pool.specs.Laws.{gone_turn, gone_end}
+use Rattle.pool.specs.Inside.{row_of, Sized}
 use Rattle.pool.specs.Row.{gone_all}
 use Rattle.pool.proofs.let_go_all.Given as goal
 

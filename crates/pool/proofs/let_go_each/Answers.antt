@@ -1,11 +1,8 @@
 use borrow.Author.Rules.{rules}
 use mathlib.Core.Path.{◌≡◌, refl, sym, ap, ◌∙◌}
-use Prim.Native.Nat.{ℕ, ◌-◌, ◌≤◌}
 use native.Mathlib.Omega.{arith}
-use lib.ListN.{take}
 use Rattle.bits.specs.Members.{members}
-use Rattle.pool.specs.Inside.{cells, freed_if, row_of, Sized}
-use Rattle.pool.specs.Row.{blocks, gone_times}
+use Rattle.pool.specs.Inside.{cells, freed_if}
 use Rattle.pool.specs.View.{cells-length}
 use Rattle.pool.proofs.Each.{each_start, each_turn, each-end}
 use Rattle.pool.proofs.Store.{freed_now, freed_not, freed_other}
@@ -16,8 +13,8 @@ use Rattle.pool.proofs.let_go_each.Goals.{then-let_go_some, else-let_go_some}
 set_after : (c : goal.Joined-let_go_some) → members c.if-let_go_some.free ≡ freed_if c.let_go_some.result c.loop-b.b (members c.loop-b.free)
 set_after c =
     elim c.if-let_go_some.branch [
-      then-let_go_some w ↦ ap members w.free-is ∙ w.with-free.ensures ∙ freed_now _ _ w.if-let_go_some.true
-    | else-let_go_some w ↦ ap members w.free-is ∙ freed_not _ _ w.if-let_go_some.false
+      | then-let_go_some w ↦ ap members w.free-is ∙ w.with-free.ensures ∙ freed_now _ _ w.if-let_go_some.true
+      | else-let_go_some w ↦ ap members w.free-is ∙ freed_not _ _ w.if-let_go_some.false
     ]
 
 pub loop-b-init : goal.loop-b-init

@@ -1,15 +1,9 @@
-use borrow.Author.Rules.{rules}
-use mathlib.Core.Logic.{⊎_elim}
-use mathlib.Core.Path.{◌≡◌, refl, sym, ap, ◌∙◌}
+use mathlib.Core.Path.{◌≡◌}
 use Prim.Native.Nat.{ℕ, ◌-◌, ◌≤◌}
-use native.Mathlib.Omega.{arith}
 use lib.ListN.{take}
 use Rattle.bits.specs.Members.{members}
-use Rattle.pool.specs.Inside.{cells, freed_if, row_of, Sized}
+use Rattle.pool.specs.Inside.{row_of, Sized}
 use Rattle.pool.specs.Row.{blocks, gone_times}
-use Rattle.pool.specs.View.{cells-length}
-use Rattle.pool.proofs.Each.{each_start, each_turn, each-end}
-use Rattle.pool.proofs.Store.{freed_now, freed_not, freed_other}
 use Rattle.pool.proofs.let_go_each.Given as goal
 
 -- The blocks below b are let go as often as the list says; from b on the same blocks are free as at the start.

@@ -1,4 +1,3 @@
-use borrow.Author.Rules.{rules}
 use mathlib.Core.Path.{refl, sym, ◌∙◌}
 use lib.ListN.{length-set}
 use Rattle.pool.specs.Cell.{fewer, at_last}
@@ -26,8 +25,11 @@ go_back-requires c =
 
 pub returns-then-n-eq-LAST : goal.returns-then-n-eq-LAST
 returns-then-n-eq-LAST c =
-    let went = c.go_back.ensures in record { frees = frees_it _ _ _ _ fewer at_last c.if-b-ge-BLOCKS.false c.has.ensures c.if-has.false _ went.free_after
-          (fewer-last _ _ c.if-n-eq-LAST.true); sized = went.sized }
+    let went = c.go_back.ensures in record {
+      frees = frees_it _ _ _ _ fewer at_last c.if-b-ge-BLOCKS.false c.has.ensures c.if-has.false _ went.free_after
+          (fewer-last _ _ c.if-n-eq-LAST.true);
+      sized = went.sized;
+    }
 
 pub returns-then-n-gt-MOST : goal.returns-then-n-gt-MOST
 returns-then-n-gt-MOST c =
@@ -35,5 +37,8 @@ returns-then-n-gt-MOST c =
 
 pub returns : goal.returns
 returns c =
-    let s = c.requires in record { frees = frees-count _ _ _ _ fewer at_last c.if-b-ge-BLOCKS.false c.has.ensures c.if-has.false _ s.counts_length
-          (fewer-one _ _ c.if-n-eq-NEW.false c.if-n-eq-LAST.false c.if-n-gt-MOST.false); sized = record { gens_length = s.gens_length; counts_length = simp length-set s.counts_length } }
+    let s = c.requires in record {
+      frees = frees-count _ _ _ _ fewer at_last c.if-b-ge-BLOCKS.false c.has.ensures c.if-has.false _ s.counts_length
+          (fewer-one _ _ c.if-n-eq-NEW.false c.if-n-eq-LAST.false c.if-n-gt-MOST.false);
+      sized = record { gens_length = s.gens_length; counts_length = simp length-set s.counts_length };
+    }

@@ -1,4 +1,3 @@
-use borrow.Author.Rules.{rules}
 use mathlib.Core.Path.{refl, sym, ◌∙◌}
 use lib.ListN.{length-set}
 use Rattle.pool.specs.Cell.{fewer, fewer_by}
@@ -27,8 +26,11 @@ returns-then-held-gt-MOST c =
 pub returns-then-fewer-held : goal.returns-then-fewer-held
 unfolding freed_if
 returns-then-fewer-held c =
-    let pre = c.requires in record { by_index = λ frees e. stored-count _ _ frees _ (fewer_by _) pre.1 (c.has.ensures ∙ sym e) c.if-has.false _ pre.0.counts_length
-          (by_some _ _ c.if-held-gt-MOST.false _ c.if-fewer-held.true); sized = record { gens_length = pre.0.gens_length; counts_length = simp length-set pre.0.counts_length } }
+    let pre = c.requires in record {
+      by_index = λ frees e. stored-count _ _ frees _ (fewer_by _) pre.1 (c.has.ensures ∙ sym e) c.if-has.false _ pre.0.counts_length
+          (by_some _ _ c.if-held-gt-MOST.false _ c.if-fewer-held.true);
+      sized = record { gens_length = pre.0.gens_length; counts_length = simp length-set pre.0.counts_length };
+    }
 
 pub returns-then-held-eq-NEW : goal.returns-then-held-eq-NEW
 unfolding freed_if
@@ -37,7 +39,10 @@ returns-then-held-eq-NEW c =
 
 pub returns : goal.returns
 returns c =
-    let went = c.set_back.ensures in record { by_index = λ frees e. let has = c.has.ensures ∙ sym e in
+    let went = c.set_back.ensures in record {
+      by_index = λ frees e. let has = c.has.ensures ∙ sym e in
           went.by_index frees (sym has ∙ c.if-has.false)
           ∙ changed_as _ _ frees _ (fewer_by _) c.requires.1 has c.if-has.false went_back
-          (by_all _ _ c.if-held-gt-MOST.false _ c.if-held-eq-NEW.false c.if-fewer-held.false); sized = went.sized }
+          (by_all _ _ c.if-held-gt-MOST.false _ c.if-held-eq-NEW.false c.if-fewer-held.false);
+      sized = went.sized;
+    }

@@ -1,4 +1,3 @@
-use borrow.Author.Rules.{rules}
 use mathlib.Core.Path.{refl}
 use Rattle.pool.specs.Cell.{stale_for}
 use Rattle.pool.specs.Row.{stale_at}

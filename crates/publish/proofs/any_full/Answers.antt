@@ -1,11 +1,6 @@
-use borrow.Author.Rules.{rules}
 use mathlib.Core.Path.{◌≡◌, refl, sym, ◌∙◌}
-use Prim.Native.Nat.{◌≤◌}
 use native.Mathlib.Omega.{arith}
 use Rattle.machine.specs.Events.{full_receiver}
-use Rattle.machine.specs.Numbers.{objects}
-use Rattle.machine.specs.State.{State}
-use Rattle.publish.specs.Arrays.{Reads}
 use Rattle.publish.proofs.Turns.{full_turn}
 use Rattle.publish.proofs.any_full.Goals as goal
 

@@ -1,12 +1,9 @@
-use borrow.Author.Rules.{rules}
-use mathlib.Core.Path.{◌≡◌, refl, sym, ◌∙◌}
+use mathlib.Core.Path.{◌≡◌}
 use Prim.Native.Nat.{◌≤◌}
-use native.Mathlib.Omega.{arith}
 use Rattle.machine.specs.Events.{full_receiver}
 use Rattle.machine.specs.Numbers.{objects}
 use Rattle.machine.specs.State.{State}
 use Rattle.publish.specs.Arrays.{Reads}
-use Rattle.publish.proofs.Turns.{full_turn}
 use Rattle.publish.proofs.any_full.Given as goal
 
 -- Whether one is full is said by the first p objects.

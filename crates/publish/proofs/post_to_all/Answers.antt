@@ -1,12 +1,8 @@
-use borrow.Author.Rules.{rules}
 use mathlib.Core.Path.{◌≡◌, ap, sym, ◌∙◌}
-use Prim.Native.Nat.{◌+◌, ◌-◌, ◌≤◌}
+use Prim.Native.Nat.{◌-◌, ◌≤◌}
 use native.Mathlib.Omega.{arith}
 use Rattle.machine.specs.Events.{published, receivers}
 use Rattle.machine.specs.Numbers.{objects}
-use Rattle.machine.specs.State.{State, with_boxes}
-use Rattle.mail.specs.View.{boxes, Mail}
-use Rattle.publish.specs.Arrays.{HavePlaces, holding}
 use Rattle.publish.proofs.Turns.{none_added, published-turn, receivers-turn}
 use Rattle.publish.proofs.post_to_all.Goals as goal
 

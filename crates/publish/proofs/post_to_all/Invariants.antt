@@ -1,13 +1,10 @@
-use borrow.Author.Rules.{rules}
-use mathlib.Core.Path.{◌≡◌, ap, sym, ◌∙◌}
-use Prim.Native.Nat.{◌+◌, ◌-◌, ◌≤◌}
-use native.Mathlib.Omega.{arith}
+use mathlib.Core.Path.{◌≡◌}
+use Prim.Native.Nat.{◌+◌, ◌≤◌}
 use Rattle.machine.specs.Events.{published, receivers}
 use Rattle.machine.specs.Numbers.{objects}
 use Rattle.machine.specs.State.{State, with_boxes}
 use Rattle.mail.specs.View.{boxes, Mail}
 use Rattle.publish.specs.Arrays.{HavePlaces, holding}
-use Rattle.publish.proofs.Turns.{none_added, published-turn, receivers-turn}
 use Rattle.publish.proofs.post_to_all.Given as goal
 
 -- The first p objects are left: those who subscribe have room, with the n that are counted they are all, and the posts to them come to what all come to.

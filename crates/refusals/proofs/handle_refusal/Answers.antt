@@ -1,4 +1,3 @@
-use borrow.Author.Rules.{rules}
 use Rattle.machine.specs.Reply.{lowest}
 use Rattle.refusals.proofs.handle_refusal.Goals as goal
 

@@ -23,13 +23,13 @@ pub look-requires : goal.look-requires
 unfolding state_of
 look-requires c =
     let event : hand_of c.front-e.result ≡ coming (state_of c.args.k) =
-        coming-is (state_of c.args.k) c.args.p c.requires.p_value.0 c.front-e.result c.front-e.ensures in
+    coming-is (state_of c.args.k) c.args.p c.requires.p_value.0 c.front-e.result c.front-e.ensures in
     rw event c.requires.p_value.1.event
 
 pub returns : goal.returns
 unfolding state_of
 returns c =
     let event : hand_of c.front-e.result ≡ coming (state_of c.args.k) =
-        coming-is (state_of c.args.k) c.args.p c.requires.p_value.0 c.front-e.result c.front-e.ensures in
+    coming-is (state_of c.args.k) c.args.p c.requires.p_value.0 c.front-e.result c.front-e.ensures in
     let k = c.args.k in
     rw event at (c.look.ensures (state_of k) refl (generations_of k _ c.generations-gens.ensures))

@@ -16,7 +16,8 @@ pub run-n-requires : goal.run-n-requires
 unfolding state_of
 run-n-requires c =
     let a = c.args in
-    let g = c.generations-gens in record { sized = (
+    let g = c.generations-gens in record {
+      sized = (
         record {
           mail = mail_of a.k _ c.well_formed.0;
           counts = rings a.k _ c.well_formed.0;
@@ -28,7 +29,9 @@ run-n-requires c =
         c.requires.tables_len.0,
         c.requires.tables_len.1,
         omega (arith, c.requires.good.2),
-      ); fit_run = drain_fit a.k g.result (both a.tables.now a.guarded.now) a.log.now g.ensures c.requires.good.1 c.requires.good.0 }
+      );
+      fit_run = drain_fit a.k g.result (both a.tables.now a.guarded.now) a.log.now g.ensures c.requires.good.1 c.requires.good.0;
+    }
 
 pub overflow_cast-n : goal.overflow_cast-n
 overflow_cast-n c =

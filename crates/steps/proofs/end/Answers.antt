@@ -11,7 +11,7 @@ unfolding end end_tests state_of
 returns-then-no-ne0 c =
     let tests-are : let a = c.args in
     c.end_refusal-no.result ≡ lowest (end_tests a.spoilt (state_of a.k)) =
-        c.end_refusal-no.ensures ∙ rw c.is_open.ensures refl in
+    c.end_refusal-no.ensures ∙ rw c.is_open.ensures refl in
     λ z. refusal _ _ _ _ z _ tests-are c.if-no-ne0.true c.refuse.ensures
 
 pub returns : goal.returns
@@ -19,5 +19,5 @@ unfolding end end_tests state_of
 returns c =
     let tests-are : let a = c.args in
     c.end_refusal-no.result ≡ lowest (end_tests a.spoilt (state_of a.k)) =
-        c.end_refusal-no.ensures ∙ rw c.is_open.ensures refl in
+    c.end_refusal-no.ensures ∙ rw c.is_open.ensures refl in
     λ z. doing _ _ _ _ z _ tests-are c.if-no-ne0.false (c.end_done.ensures z)

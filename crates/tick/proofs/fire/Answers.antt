@@ -1,4 +1,3 @@
-use borrow.Author.Rules.{rules}
 use Rattle.tick.proofs.fire.Goals as goal
 
 pub returns : goal.returns

@@ -1,11 +1,9 @@
-use mathlib.Core.Path.{◌≡◌, refl, sym, ◌∙◌}
+use mathlib.Core.Path.{◌≡◌}
 use Prim.Native.Nat.{◌-◌, ◌≤◌}
-use native.Mathlib.Omega.{arith}
 use Rattle.machine.specs.Clocks.{ticked, tick_all, tick_from}
 use Rattle.machine.specs.Numbers.{timers}
 use Rattle.machine.specs.State.{State}
 use Rattle.tick.specs.Timing.{Ready, timing}
-use Rattle.tick.proofs.Turns.{ticks_step, ticks_end}
 use Rattle.tick.proofs.tick_all.Given as goal
 
 -- The timers from t on come to what all come to.

@@ -1,4 +1,3 @@
-use borrow.Author.Rules.{rules}
 use mathlib.Core.Path.{◌≡◌, refl, sym, ◌∙◌}
 use Prim.Native.Nat.{◌-◌}
 use lib.ListN.{get_or}
@@ -20,7 +19,7 @@ returns-then-room_of-eq0 c =
     let room-is : let a = c.args in
     let p = get_or a.owners.now a.t 0 in
     c.room_of.result ≡ get_or a.depths.now (p - 1) 0 - get_or a.counts.now (p - 1) 0 =
-        c.room_of.ensures
+    c.room_of.ensures
     ∙ rw (c.of_object-2.ensures.0, c.of_object.ensures.0, c.wide-p.ensures.0) refl in
     let e = c.one_late.ensures in
     rw (e.0, e.1)
@@ -34,7 +33,7 @@ fire-requires c =
     let room-is : let a = c.args in
     let p = get_or a.owners.now a.t 0 in
     c.room_of.result ≡ get_or a.depths.now (p - 1) 0 - get_or a.counts.now (p - 1) 0 =
-        c.room_of.ensures
+    c.room_of.ensures
     ∙ rw (c.of_object-2.ensures.0, c.of_object.ensures.0, c.wide-p.ensures.0) refl in
     let h =
     may-fire _ _ _ _ _ _ _ _ _ _ _ c.requires.ready c.requires.t_lt_timers c.if-left-eq0.false c.if-left-gt1.false
@@ -46,7 +45,7 @@ returns c =
     let room-is : let a = c.args in
     let p = get_or a.owners.now a.t 0 in
     c.room_of.result ≡ get_or a.depths.now (p - 1) 0 - get_or a.counts.now (p - 1) 0 =
-        c.room_of.ensures
+    c.room_of.ensures
     ∙ rw (c.of_object-2.ensures.0, c.of_object.ensures.0, c.wide-p.ensures.0) refl in
     let e = c.one_fired.ensures in
     rw (e.0, e.1)

@@ -1,7 +1,7 @@
 use borrow.Author.Rules.{rules}
-use mathlib.Core.Path.{◌≡◌, sym, ap, ◌∙◌}
-use Prim.Native.Nat.{◌≤◌, ◌-◌}
-use Rattle.chart.specs.Chart.{has, path}
+use mathlib.Core.Path.{sym, ap, ◌∙◌}
+use Prim.Native.Nat.{◌-◌}
+use Rattle.chart.specs.Chart.{has}
 use Rattle.chart.proofs.Laws.{path_top, path_done, has_more, has-found}
 use Rattle.chart.specs.Numbers.{levels}
 use Rattle.chart.proofs.read.contains.Goals as goal

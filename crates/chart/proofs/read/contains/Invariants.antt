@@ -1,8 +1,6 @@
-use borrow.Author.Rules.{rules}
-use mathlib.Core.Path.{◌≡◌, sym, ap, ◌∙◌}
+use mathlib.Core.Path.{◌≡◌}
 use Prim.Native.Nat.{◌≤◌, ◌-◌}
 use Rattle.chart.specs.Chart.{has, path}
-use Rattle.chart.proofs.Laws.{path_top, path_done, has_more, has-found}
 use Rattle.chart.specs.Numbers.{levels}
 use Rattle.chart.proofs.read.contains.Given as goal
 

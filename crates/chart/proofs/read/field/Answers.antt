@@ -1,4 +1,3 @@
-use borrow.Author.Rules.{rules}
 use lib.ListN.{get_or-eq_default}
 use lib.Seq.{get_or-drop}
 use Rattle.chart.specs.Chart.{byte}

@@ -1,4 +1,3 @@
-use borrow.Author.Rules.{rules}
 use borrow.Author.Tests.{eq-eqb, ne_eqb}
 use Rattle.chart.specs.Chart.{parent}
 use Rattle.chart.proofs.read.parent_of.Goals as goal

@@ -1,11 +1,6 @@
-use borrow.Author.Rules.{rules}
-use borrow.Author.Tests.{eq-eqb, ne_eqb}
-use mathlib.Core.Bool.{not}
-use mathlib.Core.Path.{◌≡◌, refl, sym, ap, ◌∙◌}
-use Prim.Native.Nat.{◌≤◌, ◌-◌, ◌/◌}
-use lib.ListN.{length}
+use mathlib.Core.Path.{◌≡◌}
+use Prim.Native.Nat.{◌≤◌, ◌-◌}
 use Rattle.ground.specs.Range.{first_from}
-use Rattle.ground.specs.Search.{first_end, first_hit, first_miss}
 use Rattle.chart.specs.Chart.{states}
 use Rattle.chart.specs.Held.{not_state}
 use Rattle.chart.proofs.read.state_count.Given as goal

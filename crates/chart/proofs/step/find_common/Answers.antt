@@ -1,11 +1,9 @@
 use borrow.Author.Rules.{rules}
 use mathlib.Core.Bool.{Bool}
 use mathlib.Core.List.{List}
-use mathlib.Core.Path.{◌≡◌, refl, sym, ◌∙◌}
-use Prim.Native.Nat.{ℕ, ◌≤◌, ◌-◌}
-use Rattle.chart.specs.Chart.{has, outward, path}
-use Rattle.chart.specs.Held.{common}
-use Rattle.chart.specs.Step.{first_of}
+use mathlib.Core.Path.{refl, sym, ◌∙◌}
+use Prim.Native.Nat.{ℕ, ◌-◌}
+use Rattle.chart.specs.Chart.{has, outward}
 use Rattle.chart.proofs.Walk.{first_of_top, first_of_found, first_of_more, first_of_done}
 use Rattle.chart.specs.Numbers.{levels}
 use Rattle.chart.proofs.step.find_common.Goals as goal

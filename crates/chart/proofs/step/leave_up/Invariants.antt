@@ -1,10 +1,8 @@
-use borrow.Author.Rules.{rules}
-use mathlib.Core.Path.{◌≡◌, refl, sym, ap, ◌∙◌}
+use mathlib.Core.Path.{◌≡◌}
 use Prim.Native.Nat.{◌≤◌, ◌-◌}
 use Rattle.chart.specs.Chart.{path}
 use Rattle.chart.specs.Held.{push_all}
 use Rattle.chart.specs.Step.{leave, up_to}
-use Rattle.chart.proofs.Walk.{push_none, push_append, leave_top, leave-at, leave-more, leave_done}
 use Rattle.chart.specs.Numbers.{levels}
 use Rattle.chart.proofs.step.leave_up.Given as goal
 

@@ -1,4 +1,3 @@
-use borrow.Author.Rules.{rules}
 use borrow.Author.Tests.{eq-eqb, ne_eqb}
 use Rattle.chart.specs.Step.{limit}
 use Rattle.chart.proofs.step.limit_of.Goals as goal

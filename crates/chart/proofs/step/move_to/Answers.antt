@@ -1,4 +1,3 @@
-use borrow.Author.Rules.{rules}
 use Rattle.chart.proofs.Steps.{moved_out}
 use Rattle.chart.proofs.step.move_to.Goals as goal
 

@@ -1,4 +1,3 @@
-use borrow.Author.Rules.{rules}
 use borrow.Author.Tests.{eq-eqb, ne_eqb, le-leb, lt-leb}
 use Rattle.chart.specs.Held.{pushed, push_all}
 use Rattle.chart.specs.Step.{listed}

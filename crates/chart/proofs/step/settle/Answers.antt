@@ -1,8 +1,8 @@
 use borrow.Author.Rules.{rules}
 use mathlib.Core.Path.{◌≡◌, refl, sym, ap, ◌∙◌}
-use Prim.Native.Nat.{◌≤◌, ◌-◌, ◌+◌}
+use Prim.Native.Nat.{◌-◌, ◌+◌}
 use Rattle.chart.specs.Chart.{byte, outward}
-use Rattle.chart.specs.Held.{push_all, settled, settling}
+use Rattle.chart.specs.Held.{push_all, settling}
 use Rattle.chart.specs.Step.{enter, listed, up_to}
 use Rattle.chart.proofs.Walk.{settled_stop, settling_stop, settled-more, settling-more, settled_done, settling_done, settled_out_lem, push_none, push_turn}
 use Rattle.chart.specs.Numbers.{levels}

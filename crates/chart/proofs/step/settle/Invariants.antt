@@ -1,10 +1,6 @@
-use borrow.Author.Rules.{rules}
-use mathlib.Core.Path.{◌≡◌, refl, sym, ap, ◌∙◌}
-use Prim.Native.Nat.{◌≤◌, ◌-◌, ◌+◌}
-use Rattle.chart.specs.Chart.{byte, outward}
+use mathlib.Core.Path.{◌≡◌}
+use Prim.Native.Nat.{◌≤◌, ◌-◌}
 use Rattle.chart.specs.Held.{push_all, settled, settling}
-use Rattle.chart.specs.Step.{enter, listed, up_to}
-use Rattle.chart.proofs.Walk.{settled_stop, settling_stop, settled-more, settling-more, settled_done, settling_done, settled_out_lem, push_none, push_turn}
 use Rattle.chart.specs.Numbers.{levels}
 use Rattle.chart.proofs.step.settle.Given as goal
 

@@ -1,4 +1,3 @@
-use borrow.Author.Rules.{rules}
 use Rattle.chart.proofs.Steps.{start_out}
 use Rattle.chart.proofs.step.start_of.Goals as goal
 

@@ -1,4 +1,3 @@
-use borrow.Author.Rules.{rules}
 use mathlib.Core.Path.{refl}
 use Rattle.chart.specs.Held.{row_bytes}
 use Rattle.chart.proofs.table.bytes_of.Goals as goal

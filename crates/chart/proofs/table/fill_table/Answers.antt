@@ -1,15 +1,14 @@
 use borrow.Author.Rules.{rules}
 use borrow.Rule.Slice.PartMut.{same_len_mid}
-use mathlib.Core.List.{◌++◌}
-use mathlib.Core.Path.{◌≡◌, sym, ap, ◌∙◌}
-use Prim.Native.Nat.{◌≤◌, ◌-◌, ◌+◌, ◌*◌}
+use mathlib.Core.Path.{◌≡◌, ap, ◌∙◌}
+use Prim.Native.Nat.{◌-◌, ◌+◌, ◌*◌}
 use native.Mathlib.Omega.{arith}
 use lib.ListN.{length, drop}
 use Rattle.chart.specs.Held.{row_bytes}
-use Rattle.chart.specs.Numbers.{Guarded, row_count, row_size}
+use Rattle.chart.specs.Numbers.{row_size}
 use Rattle.chart.specs.Step.{start}
 use Rattle.chart.proofs.Accepted.{accepted, size_of, start_good}
-use Rattle.chart.proofs.Rows.{rows_to, row_same, first_row, row-turn, rows_done}
+use Rattle.chart.proofs.Rows.{row_same, first_row, row-turn, rows_done}
 use Rattle.chart.proofs.table.fill_table.Goals as goal
 
 pub index_rows-index-requires : goal.index_rows-index-requires

@@ -1,15 +1,9 @@
-use borrow.Author.Rules.{rules}
-use borrow.Rule.Slice.PartMut.{same_len_mid}
 use mathlib.Core.List.{◌++◌}
-use mathlib.Core.Path.{◌≡◌, sym, ap, ◌∙◌}
+use mathlib.Core.Path.{◌≡◌}
 use Prim.Native.Nat.{◌≤◌, ◌-◌, ◌+◌, ◌*◌}
-use native.Mathlib.Omega.{arith}
 use lib.ListN.{length, drop}
-use Rattle.chart.specs.Held.{row_bytes}
 use Rattle.chart.specs.Numbers.{Guarded, row_count, row_size}
-use Rattle.chart.specs.Step.{start}
-use Rattle.chart.proofs.Accepted.{accepted, size_of, start_good}
-use Rattle.chart.proofs.Rows.{rows_to, row_same, first_row, row-turn, rows_done}
+use Rattle.chart.proofs.Rows.{rows_to}
 use Rattle.chart.proofs.table.fill_table.Given as goal
 
 abbrev pub invariant-loop-k : goal.invariant-loop-k

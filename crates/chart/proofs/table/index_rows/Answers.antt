@@ -1,6 +1,6 @@
 use borrow.Author.Rules.{rules}
 use mathlib.Core.Path.{◌≡◌, refl, ap, ◌∙◌}
-use Prim.Native.Nat.{◌≤◌, ◌-◌, ◌+◌, ◌*◌, ◌/◌}
+use Prim.Native.Nat.{◌-◌, ◌+◌, ◌*◌, ◌/◌}
 use lib.ListN.{length}
 use Rattle.ground.specs.Parts.{tail_part}
 use Rattle.chart.specs.Held.{index_from, noted}

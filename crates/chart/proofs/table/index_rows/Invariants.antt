@@ -1,10 +1,6 @@
-use borrow.Author.Rules.{rules}
-use mathlib.Core.Path.{◌≡◌, refl, ap, ◌∙◌}
-use Prim.Native.Nat.{◌≤◌, ◌-◌, ◌+◌, ◌*◌, ◌/◌}
-use lib.ListN.{length}
-use Rattle.ground.specs.Parts.{tail_part}
-use Rattle.chart.specs.Held.{index_from, noted}
-use Rattle.chart.proofs.Index.{index_none, index_turn, index_done, length_from}
+use mathlib.Core.Path.{◌≡◌}
+use Prim.Native.Nat.{◌≤◌}
+use Rattle.chart.specs.Held.{index_from}
 use Rattle.chart.proofs.table.index_rows.Given as goal
 
 abbrev pub invariant-loop-i : goal.invariant-loop-i

@@ -1,8 +1,6 @@
 use mathlib.Core.Path.{◌∙◌, sym}
-use borrow.Author.Rules.{rules}
 use borrow.Author.Tests.{eq-eqb, ne_eqb}
 use native.Mathlib.Omega.{arith}
-use Rattle.ground.specs.Bools.{refused, passed}
 use Rattle.chart.specs.Held.{noted}
 use Rattle.chart.proofs.Accepted.{among_of, signal_of_lem}
 use Rattle.chart.specs.Numbers.{Plain, most_states}

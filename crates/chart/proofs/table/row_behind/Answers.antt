@@ -1,4 +1,3 @@
-use borrow.Author.Rules.{rules}
 use mathlib.Core.Path.{refl, ◌∙◌}
 use Rattle.ground.specs.Bytes.{padded}
 use Rattle.chart.specs.Flat.{behind, row_of}

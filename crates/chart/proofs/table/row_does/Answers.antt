@@ -1,4 +1,3 @@
-use borrow.Author.Rules.{rules}
 use mathlib.Core.Path.{◌≡◌, sym, ◌∙◌}
 use Rattle.chart.specs.Chart.{byte}
 use Rattle.chart.proofs.Steps.{does_internal, does-moved}

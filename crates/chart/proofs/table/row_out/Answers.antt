@@ -1,4 +1,3 @@
-use borrow.Author.Rules.{rules}
 use mathlib.Core.Path.{sym, ◌∙◌}
 use Rattle.chart.proofs.Index.{ready_asks, ready_at, row-found, row_made}
 use Rattle.chart.proofs.Rows.{out_none}

@@ -1,4 +1,3 @@
-use borrow.Author.Rules.{rules}
 use borrow.Author.Tests.{eq-eqb, ne_eqb}
 use Rattle.chart.specs.Chart.{form_ok}
 use Rattle.flattener.proofs.faults.form_ok.Goals as goal

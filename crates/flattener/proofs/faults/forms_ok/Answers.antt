@@ -2,12 +2,10 @@ use borrow.Author.Rules.{rules}
 use borrow.Author.Tests.{le-leb, lt-leb}
 use mathlib.Core.Bool.{true, false, ◌&&◌}
 use mathlib.Core.Path.{◌≡◌, refl, sym, ap, ◌∙◌}
-use Prim.Native.Nat.{◌≤◌, ◌-◌, ◌/◌, ◌*◌}
+use Prim.Native.Nat.{◌/◌, ◌*◌}
 use lib.ListN.{length}
-use Rattle.ground.specs.Bools.{refused, passed}
 use Rattle.ground.specs.Every.{every_done, every_pass, every_fail}
 use Rattle.ground.specs.Parts.{tail_part}
-use Rattle.ground.specs.Range.{every}
 use Rattle.chart.specs.Chart.{forms_ok, among}
 use Rattle.chart.specs.Held.{form_at}
 use Rattle.chart.specs.Numbers.{most_states}
@@ -39,7 +37,7 @@ pub returns-then-n-lt1 : goal.returns-then-n-lt1
 unfolding among
 returns-then-n-lt1 c =
     let counted : let from = c.args in among (most_states from.edition) from.n ≡ forms_ok from.edition from.n from.chart.now =
-        let d = c.args.chart.now in
+    let d = c.args.chart.now in
     let n = c.args.n in
     let ed = c.args.edition in
     sym (ap (λ b. b && among (most_states ed) n) (every_done (form_at ed n d) c.loop-i.i (length d / 8) (search rules))) ∙ c.loop-i.invariant.1 in
@@ -49,7 +47,7 @@ pub returns : goal.returns
 unfolding among
 returns c =
     let counted : let from = c.args in among (most_states from.edition) from.n ≡ forms_ok from.edition from.n from.chart.now =
-        let d = c.args.chart.now in
+    let d = c.args.chart.now in
     let n = c.args.n in
     let ed = c.args.edition in
     sym (ap (λ b. b && among (most_states ed) n) (every_done (form_at ed n d) c.loop-i.i (length d / 8) (search rules))) ∙ c.loop-i.invariant.1 in

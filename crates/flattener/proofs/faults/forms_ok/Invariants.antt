@@ -1,12 +1,6 @@
-use borrow.Author.Rules.{rules}
-use borrow.Author.Tests.{le-leb, lt-leb}
-use mathlib.Core.Bool.{true, false, ◌&&◌}
-use mathlib.Core.Path.{◌≡◌, refl, sym, ap, ◌∙◌}
-use Prim.Native.Nat.{◌≤◌, ◌-◌, ◌/◌, ◌*◌}
-use lib.ListN.{length}
-use Rattle.ground.specs.Bools.{refused, passed}
-use Rattle.ground.specs.Every.{every_done, every_pass, every_fail}
-use Rattle.ground.specs.Parts.{tail_part}
+use mathlib.Core.Bool.{◌&&◌}
+use mathlib.Core.Path.{◌≡◌}
+use Prim.Native.Nat.{◌≤◌, ◌-◌}
 use Rattle.ground.specs.Range.{every}
 use Rattle.chart.specs.Chart.{forms_ok, among}
 use Rattle.chart.specs.Held.{form_at}

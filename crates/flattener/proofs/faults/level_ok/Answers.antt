@@ -1,8 +1,6 @@
 use borrow.Author.Rules.{rules}
-use mathlib.Core.Path.{◌≡◌, sym, ap, ◌∙◌}
-use Prim.Native.Nat.{◌≤◌, ◌-◌}
+use mathlib.Core.Path.{sym, ap, ◌∙◌}
 use lib.Dec.{eqb}
-use Rattle.chart.specs.Held.{up}
 use Rattle.chart.proofs.Laws.{up_more, up_done, level_same}
 use Rattle.chart.specs.Numbers.{levels}
 use Rattle.flattener.proofs.faults.level_ok.Goals as goal

@@ -1,6 +1,4 @@
 use mathlib.Core.Path.{◌∙◌, sym}
-use borrow.Author.Rules.{rules}
-use Rattle.ground.specs.Bools.{refused, passed}
 use Rattle.flattener.proofs.faults.lies_within.Goals as goal
 
 pub returns-then-not-is_among : goal.returns-then-not-is_among

@@ -1,4 +1,3 @@
-use borrow.Author.Rules.{rules}
 use borrow.Author.Tests.{eq-eqb, ne_eqb, lt-ltb, le-ltb}
 use Rattle.chart.specs.Chart.{parent_ok}
 use Rattle.flattener.proofs.faults.parent_ok.Goals as goal

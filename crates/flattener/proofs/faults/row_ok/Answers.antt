@@ -1,10 +1,8 @@
-use borrow.Author.Rules.{rules}
 use borrow.Author.Tests.{le-leb, lt-leb}
 use lib.Dec.{leb}
 use lib.ListN.{get_or}
 use mathlib.Core.Bool.{false}
 use mathlib.Core.Path.{◌∙◌, sym, ◌≡◌}
-use Rattle.ground.specs.Bools.{refused, passed}
 use Rattle.chart.specs.Chart.{row_ok}
 use Rattle.chart.specs.Numbers.{most_flag}
 use Rattle.flattener.proofs.faults.row_ok.Goals as goal

@@ -1,15 +1,8 @@
-use borrow.Author.Rules.{rules}
-use mathlib.Core.Bool.{true, false}
-use mathlib.Core.Path.{◌≡◌, refl, sym, ◌∙◌}
-use Prim.Native.Nat.{◌≤◌, ◌-◌, ◌+◌, ◌/◌, ◌*◌}
-use lib.ListN.{length}
-use Rattle.ground.specs.Bools.{refused, passed}
-use Rattle.ground.specs.Every.{every_done, every_pass, every_fail}
-use Rattle.ground.specs.Parts.{tail_part}
+use mathlib.Core.Path.{◌≡◌}
+use Prim.Native.Nat.{◌≤◌, ◌-◌, ◌+◌}
 use Rattle.ground.specs.Range.{every}
 use Rattle.chart.specs.Chart.{rows_ok}
 use Rattle.chart.specs.Held.{key_before, row_good}
-use Rattle.chart.proofs.Laws.{key_first, key-next}
 use Rattle.flattener.proofs.faults.rows_ok.Given as goal
 
 abbrev pub invariant-loop-i : goal.invariant-loop-i

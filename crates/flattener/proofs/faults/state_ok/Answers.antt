@@ -1,7 +1,5 @@
 use mathlib.Core.Path.{◌∙◌, sym}
-use borrow.Author.Rules.{rules}
 use borrow.Author.Tests.{eq-eqb, ne_eqb}
-use Rattle.ground.specs.Bools.{refused, passed}
 use Rattle.chart.specs.Chart.{state_ok}
 use Rattle.flattener.proofs.faults.state_ok.Goals as goal
 

@@ -1,11 +1,9 @@
 use borrow.Author.Rules.{rules}
 use mathlib.Core.Bool.{true, false}
 use mathlib.Core.Path.{◌≡◌, sym, ◌∙◌}
-use Prim.Native.Nat.{◌≤◌, ◌-◌, ◌+◌, ◌*◌}
-use Rattle.ground.specs.Bools.{refused, passed}
+use Prim.Native.Nat.{◌+◌, ◌*◌}
 use Rattle.ground.specs.Every.{every_done, every_pass, every_fail}
 use Rattle.ground.specs.Parts.{tail_part}
-use Rattle.ground.specs.Range.{every}
 use Rattle.chart.specs.Chart.{tree_ok}
 use Rattle.chart.specs.Held.{state_at}
 use Rattle.flattener.proofs.faults.tree_ok.Goals as goal

@@ -1,4 +1,4 @@
-use Rattle.std.proofs.Common.{sym, refl, arith, rules, le-ltb, lt-ltb, eq-eqb, ne_eqb}
+use Rattle.std.proofs.Common.{sym, refl, arith, le-ltb, lt-ltb, eq-eqb, ne_eqb}
 use Rattle.frame.specs.Inside.{part_of, is_whole}
 use Rattle.frame.specs.Wire.{check_of}
 use Rattle.frame.proofs.Steps.{fits_short, fits_long}

@@ -1,7 +1,6 @@
-use Rattle.std.proofs.Common.{◌≡◌, ◌-◌, ◌≤◌, length, get_or, refl, ap, ◌∙◌, arith, rules}
-use Rattle.frame.specs.Inside.{state_of, part_of, last_of, is_yes}
-use Rattle.frame.specs.Reading.{state}
-use Rattle.frame.proofs.Feeding.{SoFar, so_far_start, so_far_turn, so_far_end, so_far_frame, whole}
+use Rattle.std.proofs.Common.{get_or, refl, ap, ◌∙◌, arith, rules}
+use Rattle.frame.specs.Inside.{state_of}
+use Rattle.frame.proofs.Feeding.{so_far_start, so_far_turn, so_far_end, so_far_frame, whole}
 use Rattle.frame.proofs.Steps.{said}
 use Rattle.frame.proofs.reader.feed.Goals as goal
 

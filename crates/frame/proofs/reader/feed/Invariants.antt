@@ -1,8 +1,7 @@
-use Rattle.std.proofs.Common.{◌≡◌, ◌-◌, ◌≤◌, length, get_or, refl, ap, ◌∙◌, arith, rules}
+use Rattle.std.proofs.Common.{◌≡◌, ◌-◌, ◌≤◌, length}
 use Rattle.frame.specs.Inside.{state_of, part_of, last_of, is_yes}
 use Rattle.frame.specs.Reading.{state}
-use Rattle.frame.proofs.Feeding.{SoFar, so_far_start, so_far_turn, so_far_end, so_far_frame, whole}
-use Rattle.frame.proofs.Steps.{said}
+use Rattle.frame.proofs.Feeding.{SoFar}
 use Rattle.frame.proofs.reader.feed.Given as goal
 
 -- The first i bytes of the piece are read and complete nothing.

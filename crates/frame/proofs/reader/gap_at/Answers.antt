@@ -1,4 +1,4 @@
-use Rattle.std.proofs.Common.{refl, rules}
+use Rattle.std.proofs.Common.{refl}
 use Rattle.frame.specs.Reading.{gap_at}
 use Rattle.frame.specs.Inside.{last_of}
 use Rattle.frame.proofs.reader.gap_at.Goals as goal

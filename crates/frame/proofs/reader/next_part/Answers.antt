@@ -1,4 +1,4 @@
-use Rattle.std.proofs.Common.{refl, rules, eq-eqb, ne_eqb}
+use Rattle.std.proofs.Common.{refl, eq-eqb, ne_eqb}
 use Rattle.frame.specs.Inside.{part_of, next_part}
 use Rattle.frame.proofs.reader.next_part.Goals as goal
 

@@ -1,4 +1,3 @@
-use Rattle.std.proofs.Common.{rules}
 use Rattle.frame.proofs.Steps.{full, room}
 use Rattle.frame.proofs.reader.push.Goals as goal
 

@@ -1,4 +1,4 @@
-use Rattle.std.proofs.Common.{refl, rules, le-ltb, lt-ltb, eq-eqb, ne_eqb}
+use Rattle.std.proofs.Common.{refl, le-ltb, lt-ltb, eq-eqb, ne_eqb}
 use Rattle.frame.specs.Inside.{part_of}
 use Rattle.frame.specs.Reading.{taken}
 use Rattle.frame.proofs.reader.take_in.Goals as goal

@@ -1,4 +1,4 @@
-use Rattle.std.proofs.Common.{◌≡◌, ℕ, ◌+◌, ◌-◌, ◌%◌, List, ◌∷◌, length, take, arith, rules}
+use Rattle.std.proofs.Common.{◌≡◌, ℕ, ◌+◌, ◌-◌, ◌%◌, List, ◌∷◌, length, take, arith}
 use lib.Seq.{take-length}
 use Rattle.frame.specs.Wire.{sum, check_of}
 use Rattle.frame.proofs.writer.check_of.Goals as goal

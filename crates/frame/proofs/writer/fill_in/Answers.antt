@@ -1,4 +1,4 @@
-use Rattle.std.proofs.Common.{arith, length-set}
+use Rattle.std.proofs.Common.{arith}
 use Rattle.frame.proofs.Sending.{frame-length, filled}
 use Rattle.frame.proofs.writer.fill_in.Goals as goal
 

@@ -1,4 +1,4 @@
-use Rattle.std.proofs.Common.{arith, rules}
+use Rattle.std.proofs.Common.{arith}
 use Rattle.frame.proofs.Sending.{frame-length}
 use Rattle.frame.proofs.writer.frame_size.Goals as goal
 

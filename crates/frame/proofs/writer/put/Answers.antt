@@ -1,4 +1,4 @@
-use Rattle.std.proofs.Common.{◌≡◌, ℕ, [], ◌∷◌, refl, add-one, arith, length-set, rules, eq-eqb, ne_eqb}
+use Rattle.std.proofs.Common.{◌≡◌, ℕ, [], ◌∷◌, refl, add-one, arith, length-set, eq-eqb, ne_eqb}
 use Rattle.frame.specs.Stores.{stored}
 use Rattle.frame.specs.Wire.{sent}
 use Rattle.frame.proofs.writer.put.Goals as goal

@@ -1,5 +1,4 @@
-use Rattle.std.proofs.Common.{◌≡◌, ◌+◌, ◌-◌, length, drop, refl, ◌∙◌, arith, rules}
-use Rattle.frame.specs.Stores.{stored}
+use Rattle.std.proofs.Common.{◌≡◌, length, drop, refl, ◌∙◌, arith}
 use Rattle.frame.specs.Wire.{sent_all}
 use Rattle.frame.proofs.Sending.{size_turn, sent-end, put-turn, put-end}
 use Rattle.frame.proofs.writer.put_all.Goals as goal

@@ -1,7 +1,6 @@
-use Rattle.std.proofs.Common.{◌≡◌, ◌+◌, ◌-◌, length, drop, refl, ◌∙◌, arith, rules}
+use Rattle.std.proofs.Common.{◌≡◌, ◌+◌, ◌-◌, length, drop}
 use Rattle.frame.specs.Stores.{stored}
 use Rattle.frame.specs.Wire.{sent_all}
-use Rattle.frame.proofs.Sending.{size_turn, sent-end, put-turn, put-end}
 use Rattle.frame.proofs.writer.put_all.Given as goal
 
 -- What is left to write, from j on, makes what the whole makes.

@@ -1,4 +1,4 @@
-use Rattle.std.proofs.Common.{◌≡◌, ◌+◌, ◌-◌, ◌*◌, ◌≤◌, length, drop, refl, arith, rules}
+use Rattle.std.proofs.Common.{◌≡◌, length, drop, refl, arith}
 use Rattle.frame.specs.Wire.{sent_all}
 use Rattle.frame.proofs.Sending.{size_turn, sent-end}
 use Rattle.frame.proofs.writer.sizes.Goals as goal

@@ -1,6 +1,5 @@
-use Rattle.std.proofs.Common.{◌≡◌, ◌+◌, ◌-◌, ◌*◌, ◌≤◌, length, drop, refl, arith, rules}
+use Rattle.std.proofs.Common.{◌≡◌, ◌+◌, ◌-◌, ◌*◌, ◌≤◌, length, drop}
 use Rattle.frame.specs.Wire.{sent_all}
-use Rattle.frame.proofs.Sending.{size_turn, sent-end}
 use Rattle.frame.proofs.writer.sizes.Given as goal
 
 abbrev pub invariant-loop-i : goal.invariant-loop-i

@@ -1,4 +1,4 @@
-use Rattle.std.proofs.Common.{◌≡◌, ℕ, ◌<◌, ◌≤◌, true, false, ltb, List, length, refl, ◌∙◌, arith, rules, le-ltb, lt-ltb}
+use Rattle.std.proofs.Common.{◌≡◌, ℕ, ◌<◌, ◌≤◌, true, false, ltb, List, length, refl, ◌∙◌, arith, le-ltb, lt-ltb}
 use Rattle.ground.specs.Bools.{or_right}
 use Rattle.frame.specs.Wire.{frame_bytes}
 use Rattle.frame.specs.Writing.{refused, written, area_after}
