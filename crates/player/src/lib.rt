@@ -1,7 +1,7 @@
 // Plays a trace: takes it in piece by piece, finds the chart of a LOAD in its file, and has the kernel answer.
 #![tactic(auto)]
 
-ghost use Rattle.std.specs.Prelude.{◌≡◌, ◌<◌, ◌≤◌, length, IfOk, OnErr};
+ghost use Rattle.std.specs.Prelude.{◌≡◌, ◌<◌, ◌≤◌, length, IfOk, IsOk, OnErr, slice_index};
 ghost use Rattle.std.specs.Io.{ReadsAtMost};
 ghost use Rattle.machine.specs.Numbers.{record_bytes, slots};
 ghost use Rattle.state.specs.View.{Good};
@@ -67,7 +67,9 @@ fn answer_load(
 }
 
 // The slot whose chart a record asks for; one that there is not where it asks for none.
-fn slot_of(record: &[u8]) -> u8 {
+fn slot_of(record: &[u8]) -> u8
+    ensures { (slice_index «record».now 0 ≡ LOAD → ⊥) → result ≡ SLOTS }
+{
     if record.len() == RECORD_BYTES && record[0] == LOAD {
         record[1]
     } else {
@@ -90,6 +92,7 @@ pub fn answer(
     ensures good { IfOk result (λ answered. Good answered.kernel) }
     ensures kept { OnErr result ((payloads.new ≡ payloads.old) × (tables.new ≡ tables.old)
         × (guarded.new ≡ guarded.old) × (log.new ≡ log.old)) }
+    ensures only_load { (slice_index «record».now 0 ≡ LOAD → ⊥) → IsOk result }
 {
     let slot = slot_of(record);
     if slot < SLOTS {
