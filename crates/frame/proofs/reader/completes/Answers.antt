@@ -18,11 +18,13 @@ returns-then-escaped c = rw (eq-eqb _ _ c.if-b-ne-FLAG.false, le-ltb _ _ c.if-si
 pub returns-then-size-lt-LEAST_BYTES : goal.returns-then-size-lt-LEAST_BYTES
 unfolding part_of is_whole
 returns-then-size-lt-LEAST_BYTES c =
-    rw (eq-eqb _ _ c.if-b-ne-FLAG.false, le-ltb _ _ c.if-size-gt-MOST_BYTES.false, c.if-escaped.false)
-    (sym (fits_short c.args.bytes.now c.args.n (omega (arith, c.requires, c.if-size-gt-MOST_BYTES.false)) c.if-size-lt-LEAST_BYTES.true))
+    let few = c.if-size-gt-MOST_BYTES.false in
+    rw (eq-eqb _ _ c.if-b-ne-FLAG.false, le-ltb _ _ few, c.if-escaped.false)
+    (sym (fits_short c.args.bytes.now c.args.n (omega (arith, c.requires, few)) c.if-size-lt-LEAST_BYTES.true))
 
 pub returns : goal.returns
 unfolding part_of is_whole check_of
 returns c =
-    rw (eq-eqb _ _ c.if-b-ne-FLAG.false, le-ltb _ _ c.if-size-gt-MOST_BYTES.false, c.if-escaped.false)
-    (rw c.sum_of-check.ensures (sym (fits_long c.args.bytes.now c.args.n (omega (arith, c.requires, c.if-size-gt-MOST_BYTES.false)) c.if-size-lt-LEAST_BYTES.false)))
+    let within = c.if-size-gt-MOST_BYTES.false in
+    rw (eq-eqb _ _ c.if-b-ne-FLAG.false, le-ltb _ _ within, c.if-escaped.false)
+    (rw c.sum_of-check.ensures (sym (fits_long c.args.bytes.now c.args.n (omega (arith, c.requires, within)) c.if-size-lt-LEAST_BYTES.false)))
