@@ -1,4 +1,3 @@
-use borrow.Author.Rules.{rules}
 use mathlib.Core.Path.{sym, ◌∙◌}
 use Rattle.aside.proofs.Queues.{aside_is}
 use Rattle.aside.proofs.entries_in.Goals as goal

@@ -1,4 +1,3 @@
-use borrow.Author.Rules.{rules}
 use mathlib.Core.Path.{refl, sym, ◌∙◌}
 use Rattle.machine.specs.Aside.{flush, flush_tests}
 use Rattle.state.proofs.Glue.{refusal, doing}

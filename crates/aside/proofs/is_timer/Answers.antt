@@ -1,4 +1,3 @@
-use borrow.Author.Rules.{rules}
 use mathlib.Core.Path.{refl}
 use Rattle.machine.specs.Aside.{is_timer}
 use Rattle.aside.proofs.is_timer.Goals as goal

@@ -1,11 +1,7 @@
-use borrow.Author.Rules.{rules}
-use mathlib.Core.Path.{◌≡◌, refl, sym, ◌∙◌}
-use Prim.Native.Nat.{◌-◌, ◌≤◌}
+use mathlib.Core.Path.{refl, sym, ◌∙◌}
 use native.Mathlib.Omega.{arith}
-use lib.ListN.{length, length-set, take}
+use lib.ListN.{length-set}
 use Rattle.ground.specs.Range.{tab_from}
-use Rattle.machine.specs.Numbers.{most_aside}
-use Rattle.machine.specs.Run.{first_blocks}
 use Rattle.mail.specs.Box.{box_at}
 use Rattle.mail.specs.View.{boxes, queued_in}
 use Rattle.aside.proofs.Queues.{one_more, all_listed}

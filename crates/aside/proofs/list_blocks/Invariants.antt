@@ -1,14 +1,10 @@
-use borrow.Author.Rules.{rules}
-use mathlib.Core.Path.{◌≡◌, refl, sym, ◌∙◌}
+use mathlib.Core.Path.{◌≡◌}
 use Prim.Native.Nat.{◌-◌, ◌≤◌}
-use native.Mathlib.Omega.{arith}
-use lib.ListN.{length, length-set, take}
-use Rattle.ground.specs.Range.{tab_from}
+use lib.ListN.{length, take}
 use Rattle.machine.specs.Numbers.{most_aside}
 use Rattle.machine.specs.Run.{first_blocks}
 use Rattle.mail.specs.Box.{box_at}
-use Rattle.mail.specs.View.{boxes, queued_in}
-use Rattle.aside.proofs.Queues.{one_more, all_listed}
+use Rattle.mail.specs.View.{boxes}
 use Rattle.aside.proofs.list_blocks.Given as goal
 
 -- The list has the blocks of the entries so far.

@@ -1,4 +1,3 @@
-use borrow.Author.Rules.{rules}
 use mathlib.Core.Path.{refl}
 use Rattle.state.specs.View.{state_of}
 use Rattle.charts.proofs.is_loaded.Goals as goal

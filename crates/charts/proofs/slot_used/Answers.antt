@@ -1,10 +1,6 @@
 use borrow.Author.Rules.{rules}
 use mathlib.Core.Path.{◌≡◌, refl, sym, ◌∙◌}
-use Prim.Native.Nat.{◌≤◌}
 use native.Mathlib.Omega.{arith}
-use Rattle.machine.specs.Charts.{slot_used}
-use Rattle.machine.specs.Numbers.{objects}
-use Rattle.machine.specs.State.{State}
 use Rattle.state.specs.View.{state_of}
 use Rattle.charts.proofs.Slots.{used_none, used-here, used_below}
 use Rattle.charts.proofs.slot_used.Goals as goal

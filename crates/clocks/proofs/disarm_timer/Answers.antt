@@ -1,4 +1,3 @@
-use borrow.Author.Rules.{rules}
 use mathlib.Core.Path.{refl}
 use Rattle.machine.specs.Clocks.{with_counter}
 use Rattle.state.specs.View.{state_of}

@@ -1,4 +1,3 @@
-use borrow.Author.Rules.{rules}
 use borrow.Author.Tests.{leb-false}
 use mathlib.Core.Path.{◌≡◌, refl, ◌∙◌}
 use Prim.Native.Nat.{◌<◌}
@@ -10,38 +9,32 @@ use Rattle.state.specs.View.{answered, state_of}
 use Rattle.state.proofs.Glue.{refusal, doing}
 use Rattle.events.proofs.Handles.{handle_allowed}
 use Rattle.events.proofs.hold.Goals as goal
+use Rattle.events.proofs.hold.Goals.{After-handle_refusal-no, Else-no-ne0}
+
+tests_are : (c : After-handle_refusal-no) →
+    let a = c.args in
+    c.handle_refusal-no.result ≡ lowest (hold_tests a.spoilt a.b a.generation (state_of a.k))
+unfolding hold_tests state_of
+tests_are c = c.handle_refusal-no.ensures ∙ rw (c.stale-stale.ensures, c.byte_at-n.ensures) refl
+
+allowed : (c : Else-no-ne0) → (c.args.b < blocks) × (c.byte_at-n.result < most_holds)
+allowed c = let h = handle_allowed _ _ _ _ _ _ refl c.handle_refusal-no.ensures c.if-no-ne0.false in (h.block, leb-false _ _ h.passed)
 
 pub returns-then-no-ne0 : goal.returns-then-no-ne0
-unfolding hold hold_tests state_of
-returns-then-no-ne0 c =
-    let tests-are : let a = c.args in
-    c.handle_refusal-no.result ≡ lowest (hold_tests a.spoilt a.b a.generation (state_of a.k)) =
-    c.handle_refusal-no.ensures ∙ rw (c.stale-stale.ensures, c.byte_at-n.ensures) refl in
-    λ z. refusal _ _ _ _ z _ tests-are c.if-no-ne0.true c.refuse.ensures
+unfolding hold
+returns-then-no-ne0 c = λ z. refusal _ _ _ _ z _ (tests_are (goal.at.returns-then-no-ne0 c).After-handle_refusal-no) c.if-no-ne0.true c.refuse.ensures
 
 pub overflow_add-n : goal.overflow_add-n
-overflow_add-n c =
-    let allowed : (c.args.b < blocks) × (c.byte_at-n.result < most_holds) =
-    let h = handle_allowed _ _ _ _ _ _ refl c.handle_refusal-no.ensures c.if-no-ne0.false in (h.block, leb-false _ _ h.passed) in
-    let h = allowed in omega arith
+overflow_add-n c = let h = allowed (goal.at.overflow_add-n c).Else-no-ne0 in omega arith
 
 pub with_holds-requires : goal.with_holds-requires
-with_holds-requires c =
-    let allowed : (c.args.b < blocks) × (c.byte_at-n.result < most_holds) =
-    let h = handle_allowed _ _ _ _ _ _ refl c.handle_refusal-no.ensures c.if-no-ne0.false in (h.block, leb-false _ _ h.passed) in
-    allowed.0
+with_holds-requires c = (allowed (goal.at.with_holds-requires c).Else-no-ne0).0
 
 pub overflow_add-n-2 : goal.overflow_add-n-2
-overflow_add-n-2 c =
-    let allowed : (c.args.b < blocks) × (c.byte_at-n.result < most_holds) =
-    let h = handle_allowed _ _ _ _ _ _ refl c.handle_refusal-no.ensures c.if-no-ne0.false in (h.block, leb-false _ _ h.passed) in
-    let h = allowed in omega arith
+overflow_add-n-2 c = let h = allowed (goal.at.overflow_add-n-2 c).Else-no-ne0 in omega arith
 
 pub returns : goal.returns
-unfolding answered held hold hold_tests state_of
+unfolding hold held answered state_of
 returns c =
-    let tests-are : let a = c.args in
-    c.handle_refusal-no.result ≡ lowest (hold_tests a.spoilt a.b a.generation (state_of a.k)) =
-    c.handle_refusal-no.ensures ∙ rw (c.stale-stale.ensures, c.byte_at-n.ensures) refl in
-    λ z. doing _ _ _ _ z _ tests-are c.if-no-ne0.false
+    λ z. doing _ _ _ _ z _ (tests_are (goal.at.returns c).After-handle_refusal-no) c.if-no-ne0.false
     (rw (c.with_holds.ensures, c.add.ensures.result_value, c.add.ensures.result_value_2, c.done.ensures, c.byte_at-n.ensures) refl)

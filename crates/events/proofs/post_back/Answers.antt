@@ -1,4 +1,3 @@
-use borrow.Author.Rules.{rules}
 use mathlib.Core.Path.{refl, sym}
 use Rattle.machine.specs.Events.{posted}
 use Rattle.mail.specs.Entry.{entry_of}

@@ -1,4 +1,3 @@
-use borrow.Author.Rules.{rules}
 use mathlib.Core.Path.{refl, sym, ◌∙◌}
 use native.Mathlib.Omega.{arith}
 use Rattle.machine.specs.Events.{post_front}
@@ -6,38 +5,28 @@ use Rattle.state.specs.View.{answered}
 use Rattle.state.proofs.Glue.{refusal, doing}
 use Rattle.events.proofs.Posts.{Postable, front_tests, postable, queued-is}
 use Rattle.events.proofs.post_front.Goals as goal
+use Rattle.events.proofs.post_front.Goals.{Else-no-ne0}
+
+may : (c : Else-no-ne0) → let a = c.args in Postable a.k a.b a.p
+may c =
+    let a = c.args in
+    postable a.k a.spoilt a.b a.generation a.p 0 (sym c.post_no-no.ensures ∙ c.if-no-ne0.false) c.requires
 
 pub returns-then-no-ne0 : goal.returns-then-no-ne0
 unfolding post_front
 returns-then-no-ne0 c = λ z. refusal _ _ _ _ z _ (c.post_no-no.ensures ∙ front_tests _ _ _ _ _) c.if-no-ne0.true c.refuse.ensures
 
 pub post_ahead-requires : goal.post_ahead-requires
-post_ahead-requires c =
-    let may : let a = c.args in Postable a.k a.b a.p =
-    let a = c.args in
-    postable a.k a.spoilt a.b a.generation a.p 0 (sym c.post_no-no.ensures ∙ c.if-no-ne0.false) c.requires in
-    let h = may in (h.block, h.low, h.high, h.free)
+post_ahead-requires c = let h = may (goal.at.post_ahead-requires c).Else-no-ne0 in (h.block, h.low, h.high, h.free)
 
 pub overflow_sub-p : goal.overflow_sub-p
-overflow_sub-p c =
-    let may : let a = c.args in Postable a.k a.b a.p =
-    let a = c.args in
-    postable a.k a.spoilt a.b a.generation a.p 0 (sym c.post_no-no.ensures ∙ c.if-no-ne0.false) c.requires in
-    may.low
+overflow_sub-p c = (may (goal.at.overflow_sub-p c).Else-no-ne0).low
 
 pub bounds-counts-p : goal.bounds-counts-p
-bounds-counts-p c =
-    let may : let a = c.args in Postable a.k a.b a.p =
-    let a = c.args in
-    postable a.k a.spoilt a.b a.generation a.p 0 (sym c.post_no-no.ensures ∙ c.if-no-ne0.false) c.requires in
-    let h = may in omega (arith, h.high)
+bounds-counts-p c = let h = may (goal.at.bounds-counts-p c).Else-no-ne0 in omega (arith, h.high)
 
 pub overflow_add-counts : goal.overflow_add-counts
-overflow_add-counts c =
-    let may : let a = c.args in Postable a.k a.b a.p =
-    let a = c.args in
-    postable a.k a.spoilt a.b a.generation a.p 0 (sym c.post_no-no.ensures ∙ c.if-no-ne0.false) c.requires in
-    omega (arith, may.free)
+overflow_add-counts c = omega (arith, (may (goal.at.overflow_add-counts c).Else-no-ne0).free)
 
 pub returns : goal.returns
 unfolding post_front answered

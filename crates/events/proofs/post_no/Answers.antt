@@ -1,4 +1,3 @@
-use borrow.Author.Rules.{rules}
 use mathlib.Core.Path.{sym, ◌∙◌}
 use Rattle.state.proofs.Arrays.{rings}
 use Rattle.events.proofs.Posts.{post_tests_lem}

@@ -1,4 +1,3 @@
-use borrow.Author.Rules.{rules}
 use mathlib.Core.Path.{refl, ap}
 use Rattle.machine.specs.Reply.{answer, done}
 use Rattle.state.specs.View.{answered, state_of}

@@ -1,4 +1,3 @@
-use borrow.Author.Rules.{rules}
 use borrow.Author.Tests.{eqb-false}
 use mathlib.Core.Path.{◌≡◌, refl, ◌∙◌}
 use Prim.Native.Nat.{◌<◌}
@@ -10,39 +9,33 @@ use Rattle.state.specs.View.{answered, state_of}
 use Rattle.state.proofs.Glue.{refusal, doing}
 use Rattle.events.proofs.Handles.{handle_allowed}
 use Rattle.events.proofs.release.Goals as goal
+use Rattle.events.proofs.release.Goals.{After-handle_refusal-no, Else-no-ne0}
+
+tests_are : (c : After-handle_refusal-no) →
+    let a = c.args in
+    c.handle_refusal-no.result ≡ lowest (release_tests a.spoilt a.b a.generation (state_of a.k))
+unfolding release_tests state_of
+tests_are c = c.handle_refusal-no.ensures ∙ rw (c.stale-stale.ensures, c.byte_at-n.ensures) refl
+
+allowed : (c : Else-no-ne0) → (c.args.b < blocks) × (c.byte_at-n.result ≡ 0 → ⊥)
+allowed c = let h = handle_allowed _ _ _ _ _ _ refl c.handle_refusal-no.ensures c.if-no-ne0.false in (h.block, eqb-false _ _ h.passed)
 
 pub returns-then-no-ne0 : goal.returns-then-no-ne0
-unfolding release release_tests state_of
-returns-then-no-ne0 c =
-    let tests-are : let a = c.args in
-    c.handle_refusal-no.result ≡ lowest (release_tests a.spoilt a.b a.generation (state_of a.k)) =
-    c.handle_refusal-no.ensures ∙ rw (c.stale-stale.ensures, c.byte_at-n.ensures) refl in
-    λ z. refusal _ _ _ _ z _ tests-are c.if-no-ne0.true c.refuse.ensures
+unfolding release
+returns-then-no-ne0 c = λ z. refusal _ _ _ _ z _ (tests_are (goal.at.returns-then-no-ne0 c).After-handle_refusal-no) c.if-no-ne0.true c.refuse.ensures
 
 pub overflow_sub-n : goal.overflow_sub-n
-overflow_sub-n c =
-    let allowed : (c.args.b < blocks) × (c.byte_at-n.result ≡ 0 → ⊥) =
-    let h = handle_allowed _ _ _ _ _ _ refl c.handle_refusal-no.ensures c.if-no-ne0.false in (h.block, eqb-false _ _ h.passed) in
-    let h = allowed in omega arith
+overflow_sub-n c = let h = allowed (goal.at.overflow_sub-n c).Else-no-ne0 in omega arith
 
 pub with_holds-requires : goal.with_holds-requires
-with_holds-requires c =
-    let allowed : (c.args.b < blocks) × (c.byte_at-n.result ≡ 0 → ⊥) =
-    let h = handle_allowed _ _ _ _ _ _ refl c.handle_refusal-no.ensures c.if-no-ne0.false in (h.block, eqb-false _ _ h.passed) in
-    allowed.0
+with_holds-requires c = (allowed (goal.at.with_holds-requires c).Else-no-ne0).0
 
 pub overflow_sub-n-2 : goal.overflow_sub-n-2
-overflow_sub-n-2 c =
-    let allowed : (c.args.b < blocks) × (c.byte_at-n.result ≡ 0 → ⊥) =
-    let h = handle_allowed _ _ _ _ _ _ refl c.handle_refusal-no.ensures c.if-no-ne0.false in (h.block, eqb-false _ _ h.passed) in
-    let h = allowed in omega arith
+overflow_sub-n-2 c = let h = allowed (goal.at.overflow_sub-n-2 c).Else-no-ne0 in omega arith
 
 pub returns : goal.returns
-unfolding answered release release_tests released state_of
+unfolding release released answered state_of
 returns c =
-    let tests-are : let a = c.args in
-    c.handle_refusal-no.result ≡ lowest (release_tests a.spoilt a.b a.generation (state_of a.k)) =
-    c.handle_refusal-no.ensures ∙ rw (c.stale-stale.ensures, c.byte_at-n.ensures) refl in
     let gone = c.let_go-gone.ensures in
-    λ z. doing _ _ _ _ z _ tests-are c.if-no-ne0.false
+    λ z. doing _ _ _ _ z _ (tests_are (goal.at.returns c).After-handle_refusal-no) c.if-no-ne0.false
     (rw (c.with_holds.ensures, gone.frees.row, gone.pool_value, c.done.ensures, c.one.ensures.0, gone.frees.answer, c.byte_at-n.ensures) refl)

@@ -1,4 +1,3 @@
-use borrow.Author.Rules.{rules}
 use mathlib.Core.Path.{refl}
 use Prim.Native.Nat.{◌≤◌}
 use native.Mathlib.Omega.{arith}
@@ -11,6 +10,13 @@ use Rattle.state.specs.View.{answered, state_of}
 use Rattle.state.proofs.Arrays.{mail_of, rings}
 use Rattle.steps.proofs.Runs.{drain_fit, drained_is, steps_most}
 use Rattle.steps.proofs.drain_done.Goals as goal
+use Rattle.steps.proofs.drain_done.Goals.{After-run-n}
+
+most : (c : After-run-n) → c.run-n.result ≤ most_steps
+most c =
+    let a = c.args in
+    let g = c.generations-gens in
+    omega (arith, c.requires.good.2, steps_most a.k g.result (both a.tables.now a.guarded.now) a.log.now g.ensures c.requires.good.1 c.requires.good.0 a.budget _ c.run-n.ensures.1)
 
 pub run-n-requires : goal.run-n-requires
 unfolding state_of
@@ -34,12 +40,7 @@ run-n-requires c =
     }
 
 pub overflow_cast-n : goal.overflow_cast-n
-overflow_cast-n c =
-    let most : c.run-n.result ≤ most_steps =
-    let a = c.args in
-    let g = c.generations-gens in
-    omega (arith, c.requires.good.2, steps_most a.k g.result (both a.tables.now a.guarded.now) a.log.now g.ensures c.requires.good.1 c.requires.good.0 a.budget _ c.run-n.ensures.1) in
-    omega (arith, most)
+overflow_cast-n c = omega (arith, most (goal.at.overflow_cast-n c).After-run-n)
 
 pub returns : goal.returns
 unfolding answered state_of drain_done drain_end

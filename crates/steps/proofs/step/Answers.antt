@@ -1,4 +1,3 @@
-use borrow.Author.Rules.{rules}
 use mathlib.Core.Path.{refl, sym}
 use Rattle.state.proofs.Arrays.{box_of_lem, heads_length, mail_of, rings}
 use Rattle.state.specs.View.{state_of}

@@ -1,4 +1,3 @@
-use borrow.Author.Rules.{rules}
 use Rattle.charts.proofs.flags.changed.Goals as goal
 
 pub returns-then-value : goal.returns-then-value

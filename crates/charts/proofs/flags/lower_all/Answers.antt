@@ -1,14 +1,11 @@
-use borrow.Author.Rules.{rules}
 use mathlib.Core.Bool.{false}
 use mathlib.Core.Logic.{⊎_elim}
 use mathlib.Core.Path.{◌≡◌, refl, ap, ◌∙◌}
-use Prim.Native.Nat.{ℕ, ◌-◌, ◌<◌, ◌≤◌}
+use Prim.Native.Nat.{◌<◌}
 use native.Mathlib.Omega.{arith}
-use lib.ListN.{length, get_or, length-set}
+use lib.ListN.{length, length-set}
 use lib.Seq.{get_or-set_same, get_or-set_other}
 use Rattle.bits.specs.Members.{members, put}
-use Rattle.chart.specs.Numbers.{most_flag}
-use Rattle.chart.specs.declared.read.Edition.TheVariants.{Guarded}
 use Rattle.ground.specs.Bools.{eq_or}
 use Rattle.charts.proofs.Words.{all_lowered}
 use Rattle.charts.proofs.flags.lower_all.Goals as goal

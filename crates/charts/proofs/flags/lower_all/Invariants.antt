@@ -1,16 +1,10 @@
-use borrow.Author.Rules.{rules}
 use mathlib.Core.Bool.{false}
-use mathlib.Core.Logic.{⊎_elim}
-use mathlib.Core.Path.{◌≡◌, refl, ap, ◌∙◌}
+use mathlib.Core.Path.{◌≡◌}
 use Prim.Native.Nat.{ℕ, ◌-◌, ◌<◌, ◌≤◌}
-use native.Mathlib.Omega.{arith}
-use lib.ListN.{length, get_or, length-set}
-use lib.Seq.{get_or-set_same, get_or-set_other}
+use lib.ListN.{length, get_or}
 use Rattle.bits.specs.Members.{members, put}
 use Rattle.chart.specs.Numbers.{most_flag}
 use Rattle.chart.specs.declared.read.Edition.TheVariants.{Guarded}
-use Rattle.ground.specs.Bools.{eq_or}
-use Rattle.charts.proofs.Words.{all_lowered}
 use Rattle.charts.proofs.flags.lower_all.Given as goal
 
 abbrev pub invariant-loop-i : goal.invariant-loop-i

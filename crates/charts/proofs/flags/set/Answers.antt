@@ -1,4 +1,3 @@
-use borrow.Author.Rules.{rules}
 use native.Mathlib.Omega.{arith}
 use Rattle.charts.proofs.Words.{flag-set}
 use Rattle.charts.proofs.flags.set.Goals as goal

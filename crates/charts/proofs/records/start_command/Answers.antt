@@ -1,4 +1,3 @@
-use borrow.Author.Rules.{rules}
 use Rattle.machine.specs.Machine.{choose, command}
 use Rattle.charts.proofs.records.start_command.Goals as goal
 

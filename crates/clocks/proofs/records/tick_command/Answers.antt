@@ -1,4 +1,3 @@
-use borrow.Author.Rules.{rules}
 use Rattle.machine.specs.Machine.{choose, command}
 use Rattle.clocks.proofs.records.tick_command.Goals as goal
 

@@ -10,6 +10,16 @@ use Rattle.chart.specs.Chart.{forms_ok, among}
 use Rattle.chart.specs.Held.{form_at}
 use Rattle.chart.specs.Numbers.{most_states}
 use Rattle.flattener.proofs.faults.forms_ok.Goals as goal
+use Rattle.flattener.proofs.faults.forms_ok.Goals.{After-loop-i}
+
+-- behind the loop only the number of states is left
+counted : (c : After-loop-i)
+    → let from = c.args in among (most_states from.edition) from.n ≡ forms_ok from.edition from.n from.chart.now
+counted c =
+    let d = c.args.chart.now in
+    let n = c.args.n in
+    let ed = c.args.edition in
+    sym (ap (λ b. b && among (most_states ed) n) (every_done (form_at ed n d) c.loop-i.i (length d / 8) (search rules))) ∙ c.loop-i.invariant.1
 
 pub loop-i-init : goal.loop-i-init
 unfolding forms_ok
@@ -35,20 +45,8 @@ loop-i-preserved c =
 
 pub returns-then-n-lt1 : goal.returns-then-n-lt1
 unfolding among
-returns-then-n-lt1 c =
-    let counted : let from = c.args in among (most_states from.edition) from.n ≡ forms_ok from.edition from.n from.chart.now =
-    let d = c.args.chart.now in
-    let n = c.args.n in
-    let ed = c.args.edition in
-    sym (ap (λ b. b && among (most_states ed) n) (every_done (form_at ed n d) c.loop-i.i (length d / 8) (search rules))) ∙ c.loop-i.invariant.1 in
-    simp (lt-leb _ _ c.if-n-lt1.true) at counted
+returns-then-n-lt1 c = simp (lt-leb _ _ c.if-n-lt1.true) at (counted (goal.at.returns-then-n-lt1 c).After-loop-i)
 
 pub returns : goal.returns
 unfolding among
-returns c =
-    let counted : let from = c.args in among (most_states from.edition) from.n ≡ forms_ok from.edition from.n from.chart.now =
-    let d = c.args.chart.now in
-    let n = c.args.n in
-    let ed = c.args.edition in
-    sym (ap (λ b. b && among (most_states ed) n) (every_done (form_at ed n d) c.loop-i.i (length d / 8) (search rules))) ∙ c.loop-i.invariant.1 in
-    rw c.most_states.ensures.0 (simp (le-leb _ _ c.if-n-lt1.false) at counted)
+returns c = rw c.most_states.ensures.0 (simp (le-leb _ _ c.if-n-lt1.false) at (counted (goal.at.returns c).After-loop-i))

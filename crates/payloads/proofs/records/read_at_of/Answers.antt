@@ -1,4 +1,3 @@
-use borrow.Author.Rules.{rules}
 use Rattle.payloads.proofs.records.read_at_of.Goals as goal
 
 pub returns : goal.returns
