@@ -1,4 +1,3 @@
-use borrow.Author.Rules.{rules}
 use mathlib.Core.Path.{◌∙◌, ap, sym}
 use Rattle.kernel.proofs.Parts.{lies, part_lies}
 use Rattle.host.proofs.find_part.Goals as goal

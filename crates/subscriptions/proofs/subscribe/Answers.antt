@@ -1,4 +1,3 @@
-use borrow.Author.Rules.{rules}
 use Rattle.machine.specs.Events.{subscribe}
 use Rattle.subscriptions.proofs.subscribe.Goals as goal
 

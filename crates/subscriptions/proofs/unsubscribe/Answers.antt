@@ -1,4 +1,3 @@
-use borrow.Author.Rules.{rules}
 use Rattle.machine.specs.Events.{unsubscribe}
 use Rattle.subscriptions.proofs.unsubscribe.Goals as goal
 

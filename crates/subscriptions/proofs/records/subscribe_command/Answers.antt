@@ -1,4 +1,3 @@
-use borrow.Author.Rules.{rules}
 use Rattle.machine.specs.Machine.{choose, command}
 use Rattle.subscriptions.proofs.records.subscribe_command.Goals as goal
 
