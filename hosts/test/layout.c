@@ -1,5 +1,5 @@
 /*
- * Layouts: the kernel's struct as crates/state and crates/pool declare it, and the reader's as crates/frame does, held
+ * Layouts: the kernel's struct as crates/state, mail, tick and pool declare it, and the reader's as crates/frame does, held
  * against the header and the library.
  *
  * Values are looked for at the first and at the last element of each array.
@@ -13,33 +13,39 @@ enum { UNESCAPED = 96 }; /* the most bytes of a frame, unescaped */
 
 struct pool {
     uint64_t free; /* the digit of each block that is free */
-    uint32_t gens[BLOCKS];
+    uint32_t generations[BLOCKS];
     uint16_t counts[BLOCKS]; /* of a live block: its references */
     uint8_t marks[POOLS]; /* of each pool: the least number of its blocks that were free */
 };
 
+struct ring {
+    uint16_t places[PLACES]; /* 1 + b is block b, 64 + 32 t + g timer t with signal g */
+    uint8_t head;
+    uint8_t count;
+};
+
+struct timer {
+    uint8_t owner;
+    uint8_t alarm;
+    uint16_t counter;
+    uint16_t interval;
+};
+
 struct kernel {
-    uint16_t places[OBJECTS * PLACES]; /* 1 + b is block b, 64 + 32 t + g timer t with signal g */
-    uint16_t side_places[SIDES * PLACES]; /* blocks alone */
+    struct ring mail[OBJECTS];
+    struct ring sides[SIDES]; /* blocks alone */
     uint8_t wants[OBJECTS * SIGNAL_PLACES];
     uint64_t flags[FLAGS]; /* of each flag: the digit of each object whose flag is up, by its priority */
     uint8_t signals[BLOCKS];
     uint8_t sizes[BLOCKS];
     uint8_t holds[BLOCKS];
-    uint8_t seats[OBJECTS];
     uint8_t depths[OBJECTS];
-    uint8_t side_heads[SIDES];
-    uint8_t side_counts[SIDES];
-    uint8_t loaded[SLOTS];
-    uint8_t owners[TIMERS];
-    uint8_t alarms[TIMERS];
-    uint16_t counters[TIMERS];
-    uint16_t intervals[TIMERS];
-    uint16_t hand;
-    struct pool pool;
-    uint8_t heads[OBJECTS];
-    uint8_t counts[OBJECTS];
+    uint8_t seats[OBJECTS];
     uint8_t rests[OBJECTS];
+    struct timer timers[TIMERS];
+    uint16_t hand;
+    uint8_t loaded[SLOTS];
+    struct pool pool;
 };
 
 _Static_assert(sizeof(struct kernel) == sizeof(struct trunhoac_kernel), "the header gives the kernel its size");
@@ -68,17 +74,14 @@ static const struct trunhoac_handle last_block = {.block = BLOCKS - 1};
 static uint8_t record[TRUNHOAC_RECORD_BYTES];
 static struct kernel k; /* as the library left it */
 
-/* Three stretches of fields that have no gap in them; what lies between the stretches is nobody's. */
+/* Two stretches of fields that have no gap in them; what lies behind each is nobody's. */
 enum {
-    BEFORE_COUNTERS = offsetof(struct kernel, alarms) + sizeof k.alarms,
-    COUNTERS = offsetof(struct kernel, counters),
-    POOL_END = offsetof(struct kernel, pool) + offsetof(struct pool, marks) + sizeof k.pool.marks,
-    BEHIND_POOL = offsetof(struct kernel, heads)
+    BEFORE_POOL = offsetof(struct kernel, loaded) + sizeof k.loaded,
+    POOL = offsetof(struct kernel, pool),
+    POOL_END = POOL + offsetof(struct pool, marks) + sizeof k.pool.marks
 };
 
-_Static_assert(offsetof(struct kernel, hand) + sizeof k.hand == offsetof(struct kernel, pool),
-               "the pool follows the hand");
-_Static_assert(offsetof(struct kernel, rests) + sizeof k.rests == sizeof k, "no gap behind the last field");
+_Static_assert(POOL + sizeof k.pool == sizeof k, "no field behind the pool");
 
 static void take_kernel(void)
 {
@@ -88,7 +91,7 @@ static void take_kernel(void)
 void set_generation(size_t block, uint32_t generation)
 {
     take_kernel();
-    k.pool.gens[block] = generation;
+    k.pool.generations[block] = generation;
     memcpy(lent_kernel(), &k, sizeof k);
 }
 
@@ -114,8 +117,7 @@ static void test_fresh(void)
     lend_fresh(FILL);
     take_kernel();
     lend_fresh(FILL / 2);
-    expect(same_bytes(0, BEFORE_COUNTERS) && same_bytes(COUNTERS, POOL_END) && same_bytes(BEHIND_POOL, sizeof k),
-           "a fresh start writes every byte");
+    expect(same_bytes(0, BEFORE_POOL) && same_bytes(POOL, POOL_END), "a fresh start writes every byte");
     expect(k.pool.free == ((uint64_t)1 << BLOCKS) - 1, "every block is free");
 }
 
@@ -146,7 +148,7 @@ static void test_blocks(void)
 
     done(trunhoac_fill_release(record, first_block));
     done(trunhoac_fill_release(record, last_block));
-    expect(k.pool.gens[0] == 1 && k.pool.gens[BLOCKS - 1] == 0, "generations");
+    expect(k.pool.generations[0] == 1 && k.pool.generations[BLOCKS - 1] == 0, "generations");
     expect(is_free(0) && !is_free(BLOCKS - 1) && k.pool.counts[BLOCKS - 1] == 1, "a block that is free, and one that is not");
 }
 
@@ -161,8 +163,8 @@ static void test_generations(void)
     make_first_and_last();
     done(trunhoac_fill_drop(record, first));
     done(trunhoac_fill_drop(record, last));
-    expect(k.pool.gens[0] == 0x010204 && is_free(0), "a block that is freed is one generation on");
-    expect(k.pool.gens[BLOCKS - 1] == TRUNHOAC_LAST_GENERATION, "the generation of a block that is retired stays");
+    expect(k.pool.generations[0] == 0x010204 && is_free(0), "a block that is freed is one generation on");
+    expect(k.pool.generations[BLOCKS - 1] == TRUNHOAC_LAST_GENERATION, "the generation of a block that is retired stays");
     expect(!is_free(BLOCKS - 1) && k.pool.counts[BLOCKS - 1] == RETIRED, "and the block is not free");
 }
 
@@ -233,16 +235,10 @@ static void test_flags(void)
     expect(k.flags[0] == digit_of(OBJECTS), "the first object's is down again");
 }
 
-/* The entries of an object, counted from 0 as here all are, stand in a ring from its head on. */
-static uint16_t entry(size_t object, size_t from_front)
+/* The entries of a ring stand from its head on. */
+static uint16_t entry(const struct ring *ring, size_t from_front)
 {
-    return k.places[PLACES * object + (k.heads[object] + from_front) % PLACES];
-}
-
-/* So do those of a side queue. */
-static uint16_t side_entry(size_t side, size_t from_front)
-{
-    return k.side_places[PLACES * side + (k.side_heads[side] + from_front) % PLACES];
+    return ring->places[(ring->head + from_front) % PLACES];
 }
 
 /* The first block at both objects, and the second behind it at object 16. */
@@ -259,14 +255,14 @@ static void queue_blocks(void)
 static void test_mail(void)
 {
     queue_blocks();
-    expect(k.counts[0] == 1 && k.counts[1] == 0 && k.counts[OBJECTS - 1] == 2, "how many are queued");
-    expect(entry(0, 0) == 1, "the first mailbox");
-    expect(entry(OBJECTS - 1, 0) == 1 && entry(OBJECTS - 1, 1) == 2, "the last mailbox");
-    uint8_t head = k.heads[OBJECTS - 1];
+    expect(k.mail[0].count == 1 && k.mail[1].count == 0 && k.mail[OBJECTS - 1].count == 2, "how many are queued");
+    expect(entry(&k.mail[0], 0) == 1, "the first mailbox");
+    expect(entry(&k.mail[OBJECTS - 1], 0) == 1 && entry(&k.mail[OBJECTS - 1], 1) == 2, "the last mailbox");
+    uint8_t head = k.mail[OBJECTS - 1].head;
 
     done(trunhoac_fill_next(record));
     expect(k.hand == 1, "the block in hand");
-    expect(k.heads[OBJECTS - 1] == (head + 1) % PLACES && k.counts[OBJECTS - 1] == 1, "the front entry has left");
+    expect(k.mail[OBJECTS - 1].head == (head + 1) % PLACES && k.mail[OBJECTS - 1].count == 1, "the front entry has left");
     expect(k.rests[OBJECTS - 1] == 2 && k.rests[0] == 1, "the new state of rest");
     done(trunhoac_fill_end(record));
     expect(k.hand == 0, "nothing is in hand");
@@ -283,17 +279,17 @@ static void test_side_queues(void)
     done(trunhoac_fill_end(record));
     done(trunhoac_fill_next(record));
     done(trunhoac_fill_defer(record, SIDES - 1));
-    expect(k.side_counts[0] == 1 && k.side_counts[1] == 0 && k.side_counts[SIDES - 1] == 2, "how many are set aside");
-    expect(side_entry(0, 0) == 1, "the first side queue");
-    expect(side_entry(SIDES - 1, 0) == 1 && side_entry(SIDES - 1, 1) == 2, "the last side queue");
-    uint8_t head = k.side_heads[SIDES - 1];
+    expect(k.sides[0].count == 1 && k.sides[1].count == 0 && k.sides[SIDES - 1].count == 2, "how many are set aside");
+    expect(entry(&k.sides[0], 0) == 1, "the first side queue");
+    expect(entry(&k.sides[SIDES - 1], 0) == 1 && entry(&k.sides[SIDES - 1], 1) == 2, "the last side queue");
+    uint8_t head = k.sides[SIDES - 1].head;
 
     done(trunhoac_fill_recall(record, SIDES - 1, OBJECTS));
-    expect(k.side_heads[SIDES - 1] == (head + 1) % PLACES && k.side_counts[SIDES - 1] == 1, "the oldest has left");
-    expect(entry(OBJECTS - 1, 0) == 1, "and is at the front of the last mailbox");
+    expect(k.sides[SIDES - 1].head == (head + 1) % PLACES && k.sides[SIDES - 1].count == 1, "the oldest has left");
+    expect(entry(&k.mail[OBJECTS - 1], 0) == 1, "and is at the front of the last mailbox");
     expect(k.pool.counts[0] == 3, "which changes no count");
     done(trunhoac_fill_flush(record, SIDES - 1));
-    expect(k.side_counts[SIDES - 1] == 0 && k.side_counts[0] == 1, "one side queue is empty, the other is as it was");
+    expect(k.sides[SIDES - 1].count == 0 && k.sides[0].count == 1, "one side queue is empty, the other is as it was");
     expect(k.pool.counts[1] == 1, "the second block is in hand alone");
 }
 
@@ -304,14 +300,14 @@ static void test_timers(void)
     start_objects();
     done(trunhoac_fill_arm(record, 0, 1, 4, 0x1234, 0x5678));
     done(trunhoac_fill_arm(record, TIMERS - 1, OBJECTS, 31, 1, 0x9abc));
-    expect(k.owners[0] == 1 && k.owners[TIMERS - 1] == OBJECTS, "the timers' objects");
-    expect(k.alarms[0] == 4 && k.alarms[TIMERS - 1] == 31, "their signals");
-    expect(k.counters[0] == 0x1234 && k.counters[TIMERS - 1] == 1, "their ticks");
-    expect(k.intervals[0] == 0x5678 && k.intervals[TIMERS - 1] == 0x9abc, "their intervals");
+    expect(k.timers[0].owner == 1 && k.timers[TIMERS - 1].owner == OBJECTS, "the timers' objects");
+    expect(k.timers[0].alarm == 4 && k.timers[TIMERS - 1].alarm == 31, "their signals");
+    expect(k.timers[0].counter == 0x1234 && k.timers[TIMERS - 1].counter == 1, "their ticks");
+    expect(k.timers[0].interval == 0x5678 && k.timers[TIMERS - 1].interval == 0x9abc, "their intervals");
 
     done(trunhoac_fill_tick(record));
-    expect(k.counters[0] == 0x1233 && k.counters[TIMERS - 1] == 0x9abc, "the ticks that are left");
-    expect(entry(OBJECTS - 1, 0) == LAST_ENTRY, "a timer's entry");
+    expect(k.timers[0].counter == 0x1233 && k.timers[TIMERS - 1].counter == 0x9abc, "the ticks that are left");
+    expect(entry(&k.mail[OBJECTS - 1], 0) == LAST_ENTRY, "a timer's entry");
     done(trunhoac_fill_next(record));
     expect(k.hand == LAST_ENTRY, "the timer in hand");
 }

@@ -1,2 +1,2 @@
--- Queues: what DEFER, RECALL and FLUSH read of the side queues, and what they make of them.
+-- Queues: what the tests of DEFER, RECALL and FLUSH say where none of them holds, and what is done with the entries.
 pub mod Queues

@@ -2,31 +2,35 @@
 ghost use Rattle.std.specs.Prelude.{List, ◌≡◌, ℕ};
 ghost use Rattle.machine.specs.Machine.{command};
 ghost use Rattle.machine.specs.Reply.{Areas};
-ghost use Rattle.state.specs.View.{answered, Good, state_of};
+ghost use Rattle.state.specs.View.{Good, state_of, told};
 
 use arguments::{arg, spoilt};
-use state::{Answered, Kernel};
+use reply::{Reply, said};
+use state::Kernel;
 
 // DEFER q.
-pub fn defer_command(k: Kernel, record: &[u8]) -> Answered
-    requires { Good k }
-    ensures { (d : List ℕ) (z : Areas) → answered result z ≡ command 19 «record».now d (state_of k) z }
+#[tactic(auto, unfolding(machine::specs::Machine::choose, machine::specs::Machine::command))]
+pub fn defer_command(k: &mut Kernel, record: &[u8]) -> Reply
+    requires { Good k.old }
+    ensures { (d : List ℕ) (z : Areas) → told k.new result z ≡ command 19 «record».now d (state_of k.old) z }
 {
-    super::defer(k, spoilt(record, 1), arg(record, 1))
+    said(super::defer(k, spoilt(record, 1), arg(record, 1)))
 }
 
 // RECALL q, p.
-pub fn recall_command(k: Kernel, record: &[u8]) -> Answered
-    requires { Good k }
-    ensures { (d : List ℕ) (z : Areas) → answered result z ≡ command 20 «record».now d (state_of k) z }
+#[tactic(auto, unfolding(machine::specs::Machine::choose, machine::specs::Machine::command))]
+pub fn recall_command(k: &mut Kernel, record: &[u8]) -> Reply
+    requires { Good k.old }
+    ensures { (d : List ℕ) (z : Areas) → told k.new result z ≡ command 20 «record».now d (state_of k.old) z }
 {
-    super::recall(k, spoilt(record, 2), arg(record, 1), arg(record, 2))
+    said(super::recall(k, spoilt(record, 2), arg(record, 1), arg(record, 2)))
 }
 
 // FLUSH q.
-pub fn flush_command(k: Kernel, record: &[u8]) -> Answered
-    requires { Good k }
-    ensures { (d : List ℕ) (z : Areas) → answered result z ≡ command 21 «record».now d (state_of k) z }
+#[tactic(auto, unfolding(machine::specs::Machine::choose, machine::specs::Machine::command))]
+pub fn flush_command(k: &mut Kernel, record: &[u8]) -> Reply
+    requires { Good k.old }
+    ensures { (d : List ℕ) (z : Areas) → told k.new result z ≡ command 21 «record».now d (state_of k.old) z }
 {
-    super::flush(k, spoilt(record, 1), arg(record, 1))
+    said(super::flush(k, spoilt(record, 1), arg(record, 1)))
 }

@@ -1,4 +1,4 @@
-// The calls of `areas` as they stand in its input, somebody else's write to a table, and the line that tells of a call.
+// The calls of `areas` as they stand in its input, and somebody else's write to a table.
 //
 // A call is a head, the first bytes of its record, and its chart. The head has 17 bytes; of two bytes for a number the
 // low one comes first:
@@ -10,123 +10,173 @@
 //     11        1 if somebody else writes to the tables before the call, 2 if to the guarded table
 //     12 to 14  at which offset, and the byte
 //     15, 16    the chart's length
-//
-// The line of a call has the reply without the zeros at its end; then, as the call leaves them, the sum of each area
-// over all its bytes; then the length and the sum of the part that READ hands back.
 #![tactic(auto)]
 
-use input::{low_byte_first, read_exactly};
-use numbers::REPLY_BYTES;
+ghost use Rattle.std.specs.Prelude.{◌≤◌};
+ghost use Rattle.calls.specs.declared.TheConstants.{GUARDED_ROOM, LOG_ROOM, PAYLOADS_ROOM, TABLES_ROOM};
+
+use input::{read_array, read_vec};
+use numbers::{GUARDED_AREA, LOG_AREA, PAYLOAD_AREA, TABLE_AREA};
+use std::alloc::Global;
 use std::io;
 use std::io::Read;
-use text::{sum_of, with_named};
 
 // Each area that is kept is one byte longer than the kernel's.
-pub const PAYLOADS_ROOM: usize = numbers::PAYLOAD_AREA + 1;
+pub const PAYLOADS_ROOM: usize = PAYLOAD_AREA + 1;
 
-pub const TABLES_ROOM: usize = numbers::TABLE_AREA + 1;
+pub const TABLES_ROOM: usize = TABLE_AREA + 1;
 
-pub const GUARDED_ROOM: usize = numbers::GUARDED_AREA + 1;
+pub const GUARDED_ROOM: usize = GUARDED_AREA + 1;
 
-pub const LOG_ROOM: usize = numbers::LOG_AREA + 1;
+pub const LOG_ROOM: usize = LOG_AREA + 1;
+
+// Twice the longest chart that is good, for charts that are too long.
+const CHART_ROOM: usize = 2 * numbers::LONGEST_CHART;
 
 const HEAD_BYTES: usize = 17;
 
 // To what somebody else writes.
-pub const TO_TABLES: u8 = 1;
-
-pub const TO_GUARDED: u8 = 2;
-
-// What a call asks for, if there is one. Its numbers are lengths, but for what a poke writes and where.
-#[derive(Clone, Copy)]
-pub struct Head {
-    pub is_there: bool,
-    pub is_fresh: bool,
-    pub record: u16,
-    pub given: u16,
-    pub payloads: u16,
-    pub tables: u16,
-    pub guarded: u16,
-    pub log: u16,
-    pub poked: u8,
-    pub offset: u16,
-    pub byte: u8,
-    pub chart: u16,
+#[derive(Clone, Copy, Debug, PartialEq, Eq)]
+pub enum Poked {
+    Tables,
+    Guarded,
 }
 
-pub fn read_head(input: &mut impl Read) -> io::Result<Head> {
-    let mut bytes = [0u8; HEAD_BYTES];
-    let is_there = read_exactly(input, &mut bytes, HEAD_BYTES as u16)?;
-    Ok(Head {
-        is_there,
-        is_fresh: bytes[0] == 1,
-        record: low_byte_first(bytes[1], 0),
-        given: low_byte_first(bytes[2], 0),
-        payloads: low_byte_first(bytes[3], bytes[4]),
-        tables: low_byte_first(bytes[5], bytes[6]),
-        guarded: low_byte_first(bytes[7], bytes[8]),
-        log: low_byte_first(bytes[9], bytes[10]),
-        poked: bytes[11],
-        offset: low_byte_first(bytes[12], bytes[13]),
-        byte: bytes[14],
-        chart: low_byte_first(bytes[15], bytes[16]),
+#[derive(Clone, Copy, Debug, PartialEq, Eq)]
+pub struct Poke {
+    pub to: Poked,
+    pub offset: usize,
+    pub byte: u8,
+}
+
+// How many first bytes are lent of each area.
+#[derive(Clone, Copy, Debug)]
+pub struct Lent {
+    pub payloads: usize,
+    pub tables: usize,
+    pub guarded: usize,
+    pub log: usize,
+    ghost payloads_fit: { payloads ≤ PAYLOADS_ROOM },
+    ghost tables_fit: { tables ≤ TABLES_ROOM },
+    ghost guarded_fits: { guarded ≤ GUARDED_ROOM },
+    ghost log_fits: { log ≤ LOG_ROOM },
+}
+
+#[derive(Drop)]
+pub struct Call {
+    pub is_fresh: bool,
+    pub record: Vec<u8>,
+    pub lent: Lent,
+    pub poke: Option<Poke>,
+    pub chart: Vec<u8>,
+}
+
+fn two_bytes(head: [u8; HEAD_BYTES], at: usize) -> usize
+    requires { at ≤ 15 }
+{
+    usize::from(u16::from_le_bytes([head[at], head[at + 1]]))
+}
+
+// What is lent, where there is so much.
+fn lent_of(head: [u8; HEAD_BYTES]) -> Option<Lent> {
+    let payloads = two_bytes(head, 3);
+    let tables = two_bytes(head, 5);
+    let guarded = two_bytes(head, 7);
+    let log = two_bytes(head, 9);
+    if payloads <= PAYLOADS_ROOM
+        && tables <= TABLES_ROOM
+        && guarded <= GUARDED_ROOM
+        && log <= LOG_ROOM
+    {
+        return Some(Lent {
+            payloads,
+            tables,
+            guarded,
+            log,
+        });
+    }
+    None
+}
+
+fn poke_of(head: [u8; HEAD_BYTES]) -> Option<Poke> {
+    let to = match head[11] {
+        1 => Poked::Tables,
+        2 => Poked::Guarded,
+        _ => return None,
+    };
+    Some(Poke {
+        to,
+        offset: two_bytes(head, 12),
+        byte: head[14],
     })
 }
 
-// Whether there is room for what the head asks for.
-fn fits(head: Head) -> bool {
-    head.given <= head.record
-        && head.payloads as usize <= PAYLOADS_ROOM
-        && head.tables as usize <= TABLES_ROOM
-        && head.guarded as usize <= GUARDED_ROOM
-        && head.log as usize <= LOG_ROOM
-        && (head.poked != TO_TABLES || (head.offset as usize) < TABLES_ROOM)
-        && (head.poked != TO_GUARDED || (head.offset as usize) < GUARDED_ROOM)
-}
-
-// Reads what stands behind the head, and answers whether the whole call is there.
-pub fn read_rest(
-    input: &mut impl Read,
-    head: Head,
-    record: &mut [u8],
-    chart: &mut [u8],
-) -> io::Result<bool> {
-    if !head.is_there || !fits(head) {
-        return Ok(false);
-    }
-    if !read_exactly(input, record, head.given)? {
-        return Ok(false);
-    }
-    read_exactly(input, chart, head.chart)
-}
-
-pub fn clear(area: &mut [u8]) {
-    ground::fill(area, b"");
-}
-
-// Writes the byte to an area, as somebody else would, if the call says so of this one.
-pub fn poke(head: Head, which: u8, area: &mut [u8]) {
-    let offset = head.offset as usize;
-    if head.poked == which && offset < area.len() {
-        area[offset] = head.byte;
+// Whether the poke is within the area.
+fn fits(poke: Poke) -> bool {
+    match poke.to {
+        Poked::Tables => poke.offset < TABLES_ROOM,
+        Poked::Guarded => poke.offset < GUARDED_ROOM,
     }
 }
 
-pub fn write_line(
-    rt: &impl Print,
-    reply: [u8; REPLY_BYTES],
-    payloads: &[u8],
-    tables: &[u8],
-    guarded: &[u8],
-    log: &[u8],
-    part: &[u8],
-) -> io::Result<()> {
-    let replied = text::with_reply(rt, text::empty(), reply)?;
-    let with_payloads = with_named(rt, replied, b" payloads ", sum_of(payloads))?;
-    let with_tables = with_named(rt, with_payloads, b" tables ", sum_of(tables))?;
-    let with_guarded = with_named(rt, with_tables, b" guarded ", sum_of(guarded))?;
-    let with_areas = with_named(rt, with_guarded, b" log ", sum_of(log))?;
-    let with_length = with_named(rt, with_areas, b" part ", part.len() as u64)?;
-    let whole = with_named(rt, with_length, b" sum ", sum_of(part))?;
-    text::write(rt, whole)
+// The next call; none where the input ends before its end, and where it asks for more than there is room for.
+pub fn read_call(alloc: Global, input: &mut impl Read) -> io::Result<Option<Call>> {
+    let Some(head) = read_array(input)? else {
+        return Ok(None);
+    };
+    let length = usize::from(head[1]);
+    let given = usize::from(head[2]);
+    let chart_length = two_bytes(head, 15);
+    let Some(lent) = lent_of(head) else {
+        return Ok(None);
+    };
+    let poke = poke_of(head);
+    if length < given || CHART_ROOM < chart_length || !poke.is_none_or(fits) {
+        return Ok(None);
+    }
+    let Some(mut record) = read_vec(alloc, input, given)? else {
+        return Ok(None);
+    };
+    record.resize(length, 0)?;
+    let Some(chart) = read_vec(alloc, input, chart_length)? else {
+        return Ok(None);
+    };
+    Ok(Some(Call {
+        is_fresh: head[0] == 1,
+        record,
+        lent,
+        poke,
+        chart,
+    }))
+}
+
+#[cfg(test)]
+mod tests {
+    use super::*;
+    use std::test::Fail;
+
+    // A fresh start and a record of two bytes, one of them given, with a byte written to the guarded table before it and a chart of one byte.
+    #[test]
+    fn reads_a_call_and_none_behind_it(rt: HostRuntime) -> Result<(), Fail> {
+        let bytes = [1, 2, 1, 0, 6, 3, 0, 0, 0, 4, 0, 2, 5, 1, 9, 1, 0, 12, 7];
+        let mut input = bytes.as_slice();
+        let read = read_call(rt.alloc(), &mut input)?;
+        assert!(rt;
+            read.is_some_and(|call| call.is_fresh
+                && call.record.as_slice() == [12u8, 0].as_slice()
+                && call.chart.as_slice() == [7u8].as_slice()
+                && call.lent.payloads == 1536
+                && call.lent.tables == 3
+                && call.lent.guarded == 0
+                && call.lent.log == 4
+                && call.poke
+                    == Some(Poke {
+                        to: Poked::Guarded,
+                        offset: 261,
+                        byte: 9
+                    }))
+        );
+        assert!(rt; read_call(rt.alloc(), &mut input)?.is_none());
+        Ok(())
+    }
 }

@@ -1,21 +1,21 @@
 -- Laws of the index of the rows: how it is filled from the last record to the first, and what it tells.
 use mathlib.Core.Bool.{Bool, true, false, cond, ◌&&◌}
 use mathlib.Core.List.{List}
-use mathlib.Core.Path.{◌≡◌, refl, sym, ap, ◌∙◌}
+use mathlib.Core.Path.{◌≡◌, refl, sym, ◌∙◌}
 use Prim.Native.Nat.{ℕ, ◌+◌, ◌-◌, ◌/◌, ◌%◌, ◌≤◌, ◌<◌}
 use native.Mathlib.Nat.{sub-zero}
 use native.Mathlib.Omega.{arith}
 use borrow.Author.Tests.{eq-eqb, ne_eqb, eqb-true, le-leb}
 use lib.Dec.{eqb}
-use lib.ListN.{length, get_or, replicate, set}
+use lib.ListN.{get_or, replicate, set}
 use Rattle.ground.specs.Bools.{no_yes, and_left, and_right, and_both}
 use Rattle.ground.specs.Range.{tab, first_from}
 use Rattle.ground.specs.Search.{first_end, first_hit, first_miss}
-use Rattle.ground.specs.Tab.{length-tab, get_or-tab, tab_constant, tab_ext, tab-set}
-use Rattle.chart.specs.Chart.{among, byte, flag_of, is_signal, outward, parent, record_at, records, row_for, states}
+use Rattle.ground.specs.Tab.{get_or-tab, tab_constant, tab_ext, tab-set}
+use Rattle.chart.specs.Chart.{among, byte, class_of, flag_of, is_signal, outward, parent, record_at, records, row_for, states}
 use Rattle.chart.specs.Flat.{rows_out}
-use Rattle.chart.specs.Held.{Ready, index_from, is_row, noted, nth_out, out_of, row_bytes, row_index, row_number}
-use Rattle.chart.specs.Numbers.{Plain, first_signal, last_signal, most_states, row_count, signal_count}
+use Rattle.chart.specs.Held.{index_from, is_row, noted, nth_out, out_of, row_bytes, row_index, row_number}
+use Rattle.chart.specs.Numbers.{Edition, Plain, first_signal, last_signal, most_states, row_count, signal_count}
 use Rattle.chart.specs.Step.{answer_by, row_does}
 use Rattle.chart.specs.declared.step.Out.{Out}
 use Rattle.chart.proofs.Accepted.{Accepted, accepted, among_of, at_most, nth_has, parent_low, row-answer, signal_of_lem}
@@ -34,14 +34,6 @@ module _ (d : List ℕ) where
   pub index_done : index_from d 0 ≡ row_index d
   unfolding index_from row_index row_for
   index_done = rw sub-zero
-
-  pub length_from : (i : ℕ) → length (index_from d i) ≡ row_count Plain
-  unfolding index_from
-  length_from i = length-tab (λ k. first_from (is_row d k) i (records d - i)) (row_count Plain)
-
-  pub length_index : length (row_index d) ≡ row_count Plain
-  unfolding row_index
-  length_index = length-tab (λ k. row_for d (k / signal_count + 1) (k % signal_count + first_signal)) (row_count Plain)
 
   pub index_at : (s g : ℕ) → 1 ≤ s → s ≤ most_states Plain → first_signal ≤ g → g ≤ last_signal → get_or (row_index d) (row_number s g) 0 ≡ row_for d s g
   unfolding row_index
@@ -107,36 +99,26 @@ module _ (d : List ℕ) where
         go true q = sym (row q)
         go false q = sym (other q)
 
--- What is known of a state on the way outward, or the top: what its index is asked with, what it says, and that the next is one too.
-module _ {d index : List ℕ} {s g : ℕ} (p : Ready d index s g) where
-  acc : Accepted p.edition d
-  acc = accepted p.edition d p.good
+-- What the index of a good chart tells of its states.
+module _ (e : Edition) (d : List ℕ) (good : class_of e d ≡ 0) where
+  acc : Accepted e d
+  acc = accepted e d good
 
-  pub ready_asks : (length index ≡ row_count Plain) × (s ≤ most_states Plain) × (first_signal ≤ g) × (g ≤ last_signal)
-  ready_asks = (ap length p.indexed ∙ length_index d, omega (arith, at_most p.edition (states d) d acc.forms, p.state), p.signal.0, p.signal.1)
+  pub few_states : states d ≤ most_states Plain
+  few_states = at_most e (states d) d acc.forms
 
-  module _ (n : s ≡ 0 → ⊥) where
-    pub row-found : {r : ℕ} → r ≡ get_or index (row_number s g) 0 → r ≡ row_for d s g
-    row-found e = e ∙ ap (λ i. get_or i (row_number s g) 0) p.indexed ∙ index_at d s g (omega arith) ready_asks.1 p.signal.0 p.signal.1
+  module _ (s : ℕ) (low : 1 ≤ s) (high : s ≤ states d) where
+    pub row-found : (g : ℕ) → first_signal ≤ g → g ≤ last_signal → get_or (row_index d) (row_number s g) 0 ≡ row_for d s g
+    row-found g h1 h2 = index_at d s g low (omega (arith, few_states)) h1 h2
 
-    pub ready_parent : {t : ℕ} → t ≡ parent d s → Ready d index t g
-    ready_parent e = record {
-      edition = p.edition;
-      good = p.good;
-      indexed = p.indexed;
-      state = omega (arith, e, parent_low d acc s (record { low = omega arith; high = p.state }), p.state);
-      signal = p.signal;
-    }
+    pub parent_within : parent d s ≤ states d
+    parent_within = omega (arith, parent_low d acc s (record { low = low; high = high }))
 
-  -- another state outward is ready too
-  pub ready_at : (t : ℕ) → t ≤ states d → Ready d index t g
-  ready_at t h = record { edition = p.edition; good = p.good; indexed = p.indexed; state = h; signal = p.signal }
-
-  -- the code's row of the state t that is found outward from s is the table's
-  pub row_made : (b : List ℕ) (i t j f : ℕ) (o : Out) → 1 ≤ s → t ≡ nth_out d g i (outward d s) → (t ≡ 0 → ⊥) → j ≡ row_for d t g → f ≡ byte d j 6 → o ≡ out_of (row_does d s t j)
-      → row_bytes (record { flag = f; out = o }) ≡ get_or (rows_out d s g (outward d s)) i b
-  row_made b i t j f o l q n at isFlag isOut =
-      let w = nth_has d acc g (outward d s) i (λ z. n (q ∙ z)) in
-      let a = row-answer d acc s g t (record { low = l; high = p.state }) (rw q w.1) (rw q w.0) in
-      let made : out_of (row_does d s t j) ≡ out_of (answer_by d s g t) = rw at (unfold answer_by in rw (ne_eqb t 0 n)) in
-      rw (out_some d s g b i t q n, isFlag, isOut, made, at) (row_same (flag_of d g t) (answer_by d s g t) a.few)
+    -- the code's row of the state t that is found outward from s is the table's
+    pub row_made : (g : ℕ) (b : List ℕ) (i t j f : ℕ) (o : Out) → t ≡ nth_out d g i (outward d s) → (t ≡ 0 → ⊥) → j ≡ row_for d t g → f ≡ byte d j 6 → o ≡ out_of (row_does d s t j)
+        → row_bytes (record { flag = f; out = o }) ≡ get_or (rows_out d s g (outward d s)) i b
+    row_made g b i t j f o q n at isFlag isOut =
+        let w = nth_has d acc g (outward d s) i (λ z. n (q ∙ z)) in
+        let a = row-answer d acc s g t (record { low = low; high = high }) (rw q w.1) (rw q w.0) in
+        let made : out_of (row_does d s t j) ≡ out_of (answer_by d s g t) = rw at (unfold answer_by in rw (ne_eqb t 0 n)) in
+        rw (out_some d s g b i t q n, isFlag, isOut, made, at) (row_same (flag_of d g t) (answer_by d s g t) a.few a.outcome)

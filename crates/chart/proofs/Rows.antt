@@ -17,7 +17,7 @@ use Rattle.ground.specs.Bytes.{padded}
 use Rattle.ground.specs.Padding.{length-padded, padded_short}
 use Rattle.chart.specs.Chart.{states, has_row, flag_of, outward, parent, path}
 use Rattle.chart.specs.Flat.{row_of, rows_out, behind, row_no, rows_from, slot_bytes}
-use Rattle.chart.specs.Held.{nth_out, pushed, push_all, out_of, row_bytes, row_or}
+use Rattle.chart.specs.Held.{nth_out, outcome_number, outcome_of, pushed, push_all, out_of, row_bytes, row_or}
 use Rattle.chart.specs.Numbers.{Edition, Plain, Guarded, each, first_signal, levels, most_actions, row_count, row_size, signal_count, slot_size}
 use Rattle.chart.specs.Step.{Answer, answer_by, start}
 use Rattle.chart.specs.declared.step.Acts.{Acts}
@@ -26,7 +26,7 @@ use Rattle.chart.proofs.Laws.{path_top, path-cons}
 -- ## The code's row of an answer is the answer's row
 -- the list l as the code holds it
 held : List ℕ → Acts
-held l = record { n = length l; a = l ++ replicate (most_actions - length l) 0 }
+held l = record { count = length l; list = l ++ replicate (most_actions - length l) 0 }
 
 held_push : (l : List ℕ) (x : ℕ) → length l < most_actions → pushed (held l) x ≡ held (l ++ (x ∷ []))
 unfolding held pushed
@@ -34,7 +34,7 @@ held_push l x h =
     let e : most_actions - length l ≡ suc (most_actions - (length l + 1)) = omega arith in
     let f : length (l ++ (x ∷ [])) ≡ length l + 1 = length-append l (x ∷ []) in
     rw (lt-leb most_actions (length l) h, e, f, append_assoc)
-    (ap (λ b. record { n = length l + 1; a = b }) (set-append_seam l 0 (replicate (most_actions - (length l + 1)) 0) x))
+    (ap (λ b. record { count = length l + 1; list = b }) (set-append_seam l 0 (replicate (most_actions - (length l + 1)) 0) x))
 
 held_all : (l m : List ℕ) → length l + length m ≤ most_actions → push_all (held l) m ≡ held (l ++ m)
 unfolding push_all
@@ -44,9 +44,15 @@ held_all l (x ∷ m) h =
     ∙ held_all (l ++ (x ∷ [])) m (omega (arith, length-append l (x ∷ [])))
     ∙ ap held (append_assoc l (x ∷ []) m)
 
-pub row_same : (f : ℕ) (r : Answer) → length r.acts ≤ most_actions → row_bytes (record { flag = f; out = out_of r }) ≡ row_of f r
+outcome_same : (n : ℕ) → n ≤ 2 → outcome_number (outcome_of n) ≡ n
+outcome_same zero h = refl
+outcome_same (suc zero) h = refl
+outcome_same (suc (suc zero)) h = refl
+outcome_same (suc (suc (suc n))) h = absurd (omega arith)
+
+pub row_same : (f : ℕ) (r : Answer) → length r.acts ≤ most_actions → r.outcome ≤ 2 → row_bytes (record { flag = f; out = out_of r }) ≡ row_of f r
 unfolding row_bytes out_of row_of held
-row_same f r h = rw (held_all [] r.acts (omega arith), padded_short most_actions r.acts h)
+row_same f r h g = rw (held_all [] r.acts (omega arith), padded_short most_actions r.acts h, outcome_same r.outcome g)
 
 -- ## The slot, row by row
 pub row-length : (f : ℕ) (r : Answer) → length (row_of f r) ≡ row_size

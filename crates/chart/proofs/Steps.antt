@@ -10,6 +10,7 @@ use Rattle.chart.specs.Chart.{path, outward, byte, top_target, top_action}
 use Rattle.chart.specs.Held.{no_acts, push_all, settled, settling, settled_out, out_of}
 use Rattle.chart.specs.Step.{up_to, leave, enter, listed, limit, settle, moved, row_does, start}
 use Rattle.chart.specs.declared.step.Out.{Out}
+use Rattle.chart.specs.declared.step.Outcome.TheVariants.{Internal}
 use Rattle.chart.proofs.Walk.{push_append, up_to_top, settled_stop, settled-suc, settling_stop, settling-suc}
 use Rattle.chart.specs.Numbers.{levels}
 
@@ -63,7 +64,7 @@ module _ (d : List ℕ) where
   unfolding start
   start_out = rw (up_to_top d levels (top_target d)) (ap (settled_out d (top_target d)) (push_append _ _ _) ∙ sym (settle_out (top_target d) _))
 
-  pub does_internal : (x s i : ℕ) → byte d i 3 ≡ 0 → ◌≡◌ {A = Out} (record { next = x; outcome = 1; acts = push_all no_acts (listed (byte d i 5)) }) (out_of (row_does d x s i))
+  pub does_internal : (x s i : ℕ) → byte d i 3 ≡ 0 → ◌≡◌ {A = Out} (record { next = x; outcome = Internal; acts = push_all no_acts (listed (byte d i 5)) }) (out_of (row_does d x s i))
   unfolding out_of row_does
   does_internal x s i z = rw (eq-eqb (byte d i 3) 0 z)
 

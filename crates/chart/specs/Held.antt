@@ -1,15 +1,20 @@
 -- For the proofs alone, and nothing to believe: how the code holds things, and names for parts of the definitions.
-use Rattle.std.specs.Prelude.{Bool, true, false, cond, not, ◌&&◌, List, [], ◌∷◌, ◌++◌, ◌≡◌, ℕ, zero, suc, ◌+◌, ◌*◌, ◌-◌, ◌/◌, ◌%◌, ◌≤◌, eqb, leb, get_or, replicate, set}
+use Rattle.std.specs.Prelude.{Bool, true, false, cond, not, ◌&&◌, List, [], ◌∷◌, ◌++◌, ℕ, zero, suc, ◌+◌, ◌*◌, ◌-◌, ◌/◌, ◌%◌, eqb, leb, get_or, replicate, set}
 use Rattle.ground.specs.Range.{tab, first_from}
-use Rattle.chart.specs.Chart.{class_of, states, records, record_at, byte, parent, initial, initial_action, key, among, is_signal, form_ok, state_ok, row_ok, row_for, has_row, flag_of, outward, has}
+use Rattle.chart.specs.Chart.{records, record_at, byte, parent, initial, initial_action, key, among, is_signal, form_ok, state_ok, row_ok, row_for, has_row, flag_of, outward, has}
 use Rattle.chart.specs.Flags.{Flags, is_open}
 use Rattle.chart.specs.Flat.{row_of, row_at, flag_at, answer_of, readable, zeros}
-use Rattle.chart.specs.Numbers.{Edition, Plain, most_states, levels, first_signal, last_signal, signal_count, row_count, row_size, most_actions}
+use Rattle.chart.specs.Numbers.{Edition, Plain, most_states, levels, first_signal, signal_count, row_count, row_size, most_actions}
 use Rattle.chart.specs.Step.{Answer, ignored, answer_by, listed, up_to, enter, first_of}
 use Rattle.chart.specs.declared.Reading.{Reading}
 use Rattle.chart.specs.declared.Reading.TheVariants.{Taken, Ignored, Unsound}
+use Rattle.chart.specs.declared.read.RecordKind.{RecordKind}
+use Rattle.chart.specs.declared.read.RecordKind.TheVariants.{State, Top}
+use Rattle.chart.specs.declared.read.RecordKind.TheVariants.{Row as RowRecord}
 use Rattle.chart.specs.declared.step.Acts.{Acts}
 use Rattle.chart.specs.declared.step.Out.{Out}
+use Rattle.chart.specs.declared.step.Outcome.{Outcome}
+use Rattle.chart.specs.declared.step.Outcome.TheVariants.{Ignored as IgnoredStep, Internal, Transition}
 use Rattle.chart.specs.declared.table.Row.{Row}
 
 -- ## The check
@@ -18,6 +23,12 @@ not_state d i = not (eqb (byte d i 0) 1)
 
 abbrev pub kind_at : ℕ → ℕ → ℕ
 kind_at n i = cond (eqb i 0) 3 (cond (leb i n) 1 2)
+
+-- the kind that the code has of a record, as its number
+abbrev pub kind_number : RecordKind → ℕ
+kind_number State = 1
+kind_number RowRecord = 2
+kind_number Top = 3
 
 abbrev pub form_at : Edition → ℕ → List ℕ → ℕ → Bool
 form_at e n d i = form_ok e (kind_at n i) (record_at d i)
@@ -72,24 +83,35 @@ settling (suc k) d s =
 
 -- The code's list of actions: the first 18, with their number, the rest 0. One more, where there is room.
 abbrev pub no_acts : Acts
-no_acts = record { n = 0; a = replicate most_actions 0 }
+no_acts = record { count = 0; list = replicate most_actions 0 }
 
 unfoldable pub pushed : Acts → ℕ → Acts
-pushed r x = cond (leb most_actions r.n) r (record { n = r.n + 1; a = set r.a r.n x })
+pushed r x = cond (leb most_actions r.count) r (record { count = r.count + 1; list = set r.list r.count x })
 
 unfoldable pub push_all : Acts → List ℕ → Acts
 push_all r [] = r
 push_all r (x ∷ l) = push_all (pushed r x) l
 
+-- an outcome as the code holds it, and as the number that it is
+abbrev pub outcome_of : ℕ → Outcome
+outcome_of zero = IgnoredStep
+outcome_of (suc zero) = Internal
+outcome_of (suc (suc n)) = Transition
+
+abbrev pub outcome_number : Outcome → ℕ
+outcome_number IgnoredStep = 0
+outcome_number Internal = 1
+outcome_number Transition = 2
+
 unfoldable pub out_of : Answer → Out
-out_of r = record { next = r.next; outcome = r.outcome; acts = push_all no_acts r.acts }
+out_of r = record { next = r.next; outcome = outcome_of r.outcome; acts = push_all no_acts r.acts }
 
 -- the end of a transition at t, behind what was listed before
 unfoldable pub settled_out : List ℕ → ℕ → Acts → Out
-settled_out d t r = record { next = settled levels d t; outcome = 2; acts = push_all r (settling levels d t) }
+settled_out d t r = record { next = settled levels d t; outcome = Transition; acts = push_all r (settling levels d t) }
 
 unfoldable pub row_bytes : Row → List ℕ
-row_bytes r = r.out.next ∷ r.out.outcome ∷ r.out.acts.n ∷ (r.out.acts.a ++ (r.flag ∷ 0 ∷ 0 ∷ []))
+row_bytes r = r.out.next ∷ outcome_number r.out.outcome ∷ r.out.acts.count ∷ (r.out.acts.list ++ (r.flag ∷ 0 ∷ 0 ∷ []))
 
 -- ## Reading the table
 -- what reading k rows tells, from a place of a table on
@@ -131,11 +153,3 @@ unfoldable pub noted : List ℕ → ℕ → List ℕ → List ℕ
 noted r i l =
     cond (eqb (get_or r 0 0) 2 && (among (most_states Plain) (get_or r 1 0) && is_signal (get_or r 2 0)))
     (set l (row_number (get_or r 1 0) (get_or r 2 0)) i) l
-
--- what the flattener's steps need: an accepted chart and its index, a state of the chart or the top, a signal
-pub record Ready (d index : List ℕ) (x g : ℕ) : Type 0 where
-  pub edition : Edition
-  pub good : class_of edition d ≡ 0
-  pub indexed : index ≡ row_index d
-  pub state : x ≤ states d
-  pub signal : (first_signal ≤ g) × (g ≤ last_signal)

@@ -1,6 +1,7 @@
 pub mod Numbers
 pub mod Flags
 pub mod Chart
+pub mod Faults
 pub mod Step
 pub mod Flat
 pub mod Held

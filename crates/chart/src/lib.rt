@@ -1,6 +1,7 @@
 // Charts: reading one, what it does, its flat table, and the reading of that table's rows.
 #![tactic(auto)]
 
+pub mod faults;
 pub mod read;
 mod step;
 pub mod table;
@@ -13,9 +14,9 @@ ghost use Rattle.chart.specs.Held.{reading};
 ghost use Rattle.chart.specs.Numbers.{Guarded, Plain, each, first_signal, flag_byte, most_flag, row_size};
 ghost use Rattle.ground.specs.Bytes.{blank};
 
-use ground::{WORD_BYTES, wide, word};
+use ground::{WORD_BYTES, word};
 use numbers::{ACTIONS_IN_ROW, FLAG_IN_ROW, FLAGS, MOST_ACTIONS, ROW_BYTES};
-use read::{Edition, is_among, most_flag, most_states};
+use read::{Edition, is_among};
 use table::GUARDED_ROWS;
 
 const BYTE_BITS: usize = 8;
@@ -31,7 +32,7 @@ fn plain_place(s: u8, g: u8) -> usize
     requires { (1 ≤ s) × (first_signal ≤ g) }
     ensures { (result ≡ place Plain s g 0) × (row_size ≤ result) × (result < 262144) }
 {
-    STATE_BYTES * wide(s) + ROW_BYTES * wide(g) - EXCESS
+    STATE_BYTES * usize::from(s) + ROW_BYTES * usize::from(g) - EXCESS
 }
 
 // Where the rows for state s and signal g begin.
@@ -84,45 +85,31 @@ fn sound_from(e: Edition, row: &[u8], k: usize) -> bool
     match e {
         Edition::Plain => blank_from(row, k),
         Edition::Guarded => {
-            if !ground::blank(row, k, FLAG_IN_ROW) {
-                return false;
-            }
-            if most_flag(e) < row[FLAG_IN_ROW] {
-                return false;
-            }
-            blank_from(row, FLAG_IN_ROW + 1)
+            ground::blank(row, k, FLAG_IN_ROW)
+                && row[FLAG_IN_ROW] <= e.most_flag()
+                && blank_from(row, FLAG_IN_ROW + 1)
         }
     }
 }
 
 // Whether a row is sound.
+#[tactic(auto, unfolding(crate::specs::Flat::sound))]
 pub fn sound(e: Edition, row: &[u8]) -> bool
     ensures { result ≡ sound e row.now }
 {
-    if row.len() != ROW_BYTES {
-        return false;
-    }
-    if !is_among(most_states(e), row[0]) {
-        return false;
-    }
-    if 2 < row[1] {
-        return false;
-    }
-    let count = wide(row[2]);
-    if MOST_ACTIONS < count {
-        return false;
-    }
-    sound_from(e, row, ACTIONS_IN_ROW + count)
+    row.len() == ROW_BYTES
+        && is_among(e.most_states(), row[0])
+        && row[1] <= 2
+        && usize::from(row[2]) <= MOST_ACTIONS
+        && sound_from(e, row, ACTIONS_IN_ROW + usize::from(row[2]))
 }
 
 // Whether a row is sound as a start row, which has no flag.
+#[tactic(auto, unfolding(crate::specs::Flat::start_sound))]
 pub fn start_sound(e: Edition, row: &[u8]) -> bool
     ensures { result ≡ start_sound e row.now }
 {
-    if !sound(e, row) {
-        return false;
-    }
-    row[FLAG_IN_ROW] == 0
+    sound(e, row) && row[FLAG_IN_ROW] == 0
 }
 
 // Whether a row with the flag f is open to object p: it has none, or one that is up.
@@ -130,15 +117,11 @@ fn is_open(flags: &[u64; FLAGS], p: usize, f: u8) -> bool
     requires { (p < width) × (f ≤ most_flag Guarded) }
     ensures { result ≡ is_open (in_words flags.now p) f }
 {
-    if f == 0 {
-        return true;
-    }
-    let at = (f - 1) as usize;
-    bits::has(flags[at], p)
+    f == 0 || bits::has(flags[usize::from(f) - 1], p)
 }
 
 // What reading the rows for a state and signal tells: the place of the row that is taken, ignored, or a row that may not be read.
-#[derive(Clone, Copy)]
+#[derive(Clone, Copy, Debug, PartialEq, Eq)]
 pub enum Reading {
     Taken(usize),
     Ignored,
@@ -151,9 +134,10 @@ fn read_row(table: &[u8], at: usize) -> Reading
     ensures { (is_up : Flags) → result ≡ reading Plain is_up table.now at (each Plain) }
 {
     if sound(Edition::Plain, &table[at..at + ROW_BYTES]) {
-        return Reading::Taken(at);
+        Reading::Taken(at)
+    } else {
+        Reading::Unsound
     }
-    Reading::Unsound
 }
 
 // Reads the rows for a state and signal from a place of a guarded table on, in order.
@@ -161,11 +145,9 @@ fn read_rows(table: &[u8], at: usize, flags: &[u64; FLAGS], p: usize) -> Reading
     requires { (p < width) × (at + row_size * each Guarded ≤ length table.now) }
     ensures { result ≡ reading Guarded (in_words flags.now p) table.now at (each Guarded) }
 {
-    let mut place = at;
-    let mut i: usize = 0;
-    while i < GUARDED_ROWS {
-        let end = place + ROW_BYTES;
-        let row = &table[place..end];
+    for i in 0..GUARDED_ROWS {
+        let place = at + ROW_BYTES * i;
+        let row = &table[place..place + ROW_BYTES];
         if blank_from(row, 0) {
             return Reading::Ignored;
         }
@@ -175,8 +157,6 @@ fn read_rows(table: &[u8], at: usize, flags: &[u64; FLAGS], p: usize) -> Reading
         if is_open(flags, p, row[FLAG_IN_ROW]) {
             return Reading::Taken(place);
         }
-        place = end;
-        i += 1;
     }
     Reading::Ignored
 }

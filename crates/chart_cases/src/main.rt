@@ -7,11 +7,11 @@
 ghost use Rattle.std.specs.Prelude.{◌≤◌, length};
 
 use chart::read::Edition;
-use input::{low_byte_first, read_exactly};
-use numbers::{FLAG_IN_ROW, GUARDED_AREA, ROW_BYTES, SLOT_BYTES};
+use input::{read_array, read_full};
+use numbers::{ACTIONS_IN_ROW, FLAG_IN_ROW, ROW_BYTES};
 use std::io;
 use std::io::Read;
-use text::{sum_of, wide, with_named};
+use text::{Spaced, sum_of};
 
 // More than any chart that is good, for charts that are too long.
 const BUFFER_BYTES: usize = 11200;
@@ -22,176 +22,145 @@ const GUARDED_CASE: u8 = 2;
 // What a slot is filled with beforehand, to show which charts leave it alone.
 const FILL: u8 = 170;
 
-// Whether a case was there, whether its rows are to be written, its edition, and how long its chart is.
-#[derive(Clone, Copy)]
-struct Case {
-    there: bool,
+// What comes before a chart.
+#[derive(Clone, Copy, Debug)]
+struct Header {
     rows: bool,
     edition: Edition,
-    length: u16,
+    length: usize,
 }
 
-// Reads a case, whose chart goes to the front of the buffer.
-fn read_case(input: &mut impl Read, buffer: &mut [u8]) -> io::Result<Case> {
-    let mut header = [0u8; 3];
-    if !read_exactly(input, &mut header, 3)? {
-        return Ok(Case {
-            there: false,
-            rows: false,
-            edition: Edition::Plain,
-            length: 0,
-        });
-    }
-    let length = low_byte_first(header[1], header[2]);
-    Ok(Case {
-        there: read_exactly(input, buffer, length)?,
+fn read_header(input: &mut impl Read) -> io::Result<Option<Header>> {
+    let Some(header) = read_array::<3>(input)? else {
+        return Ok(None);
+    };
+    Ok(Some(Header {
         rows: header[0] % 2 == 1,
         edition: if header[0] < GUARDED_CASE {
             Edition::Plain
         } else {
             Edition::Guarded
         },
-        length,
-    })
+        length: usize::from(u16::from_le_bytes([header[1], header[2]])),
+    }))
 }
 
-// Writes a row, given as the part of the table that starts with it, unless the signal is ignored.
-fn write_row(rt: &impl Print, offset: usize, part: &[u8]) -> io::Result<()>
-    requires { 24 ≤ length part.now }
+// The answers that C gets.
+fn check(edition: Edition, chart: &[u8]) -> u32 {
+    match edition {
+        Edition::Plain => flattener::chart_check(chart),
+        Edition::Guarded => flattener::chart_check_guarded(chart),
+    }
+}
+
+fn flatten(edition: Edition, chart: &[u8], slot: &mut [u8]) -> u32 {
+    match edition {
+        Edition::Plain => flattener::chart_flatten(chart, slot),
+        Edition::Guarded => flattener::chart_flatten_guarded(chart, slot),
+    }
+}
+
+// Writes a row, unless the signal is ignored.
+fn write_row(rt: &impl Print, offset: usize, row: &[u8]) -> io::Result<()>
+    requires { 24 ≤ length row.now }
 {
-    if part[1] == 0 {
+    if row[1] == 0 {
         return Ok(());
     }
-    let at = text::with_number(rt, text::empty(), offset as u64)?;
-    let line = text::with_bytes(rt, at, b":")?;
-    let used = part.len().min(3 + part[2] as usize);
-    let row = text::with_list(rt, line, &part[..used])?;
-    let flag = part[FLAG_IN_ROW];
-    if flag == 0 {
-        text::write(rt, row)
-    } else {
-        text::write(rt, with_named(rt, row, b" flag ", wide(flag))?)
+    let used = row.len().min(ACTIONS_IN_ROW + usize::from(row[2]));
+    print!(rt; "{offset}:{}", Spaced(&row[..used]))?;
+    match row[FLAG_IN_ROW] {
+        0 => println!(rt),
+        flag => println!(rt; " flag {flag}"),
     }
-}
-
-fn write_rows(rt: &impl Print, table: &[u8]) -> io::Result<()> {
-    let mut offset: usize = 0;
-    while offset + ROW_BYTES <= table.len() {
-        write_row(rt, offset, &table[offset..])?;
-        offset += ROW_BYTES;
-    }
-    Ok(())
-}
-
-fn write_named(rt: &impl Print, name: &[u8], number: u64) -> io::Result<()> {
-    text::write(rt, with_named(rt, text::empty(), name, number)?)
 }
 
 // Writes what the calls of an edition answer, and what stands in the slot afterwards.
-fn tell(rt: &impl Print, class: u32, checked: u32, slot: &[u8], rows: bool) -> io::Result<()> {
-    write_named(rt, b"class ", class as u64)?;
-    if checked != class {
-        let differs = text::with_bytes(rt, text::empty(), b"check differs")?;
-        text::write(rt, differs)?;
+fn run_chart(
+    rt: &(impl Print + AllocGlobal),
+    edition: Edition,
+    chart: &[u8],
+    rows: bool,
+) -> io::Result<()> {
+    let mut slot = vec![in rt.alloc(); FILL; edition.slot_bytes()]?;
+    let class = flatten(edition, chart, &mut slot);
+    println!(rt; "class {class}")?;
+    if check(edition, chart) != class {
+        println!(rt; "check differs")?;
     }
     if rows && class == 0 {
-        write_rows(rt, slot)?;
+        for (i, row) in slot.chunks_exact(ROW_BYTES).enumerate() {
+            write_row(rt, i * ROW_BYTES, row)?;
+        }
     }
-    write_named(rt, b"sum ", sum_of(slot))
+    println!(rt; "sum {}", sum_of(&slot))
 }
 
-fn run_plain(rt: &impl Print, chart: &[u8], rows: bool) -> io::Result<()> {
-    let mut slot = [FILL; SLOT_BYTES];
-    let class = flattener::chart_flatten(chart, &mut slot);
-    tell(rt, class, flattener::chart_check(chart), &slot, rows)
-}
-
-fn run_guarded(rt: &impl Print, chart: &[u8], rows: bool) -> io::Result<()> {
-    let mut slot = [FILL; GUARDED_AREA];
-    let class = flattener::chart_flatten_guarded(chart, &mut slot);
-    tell(
-        rt,
-        class,
-        flattener::chart_check_guarded(chart),
-        &slot,
-        rows,
-    )
-}
-
-fn run_chart(rt: &impl Print, edition: Edition, chart: &[u8], rows: bool) -> io::Result<()> {
-    match edition {
-        Edition::Plain => run_plain(rt, chart, rows),
-        Edition::Guarded => run_guarded(rt, chart, rows),
+// Reads the chart behind a header into the front of the buffer and runs it, and answers whether it was there.
+fn run_case(
+    rt: &(impl Print + AllocGlobal),
+    input: &mut impl Read,
+    header: Header,
+    buffer: &mut [u8; BUFFER_BYTES],
+) -> io::Result<bool> {
+    let length = header.length.min(BUFFER_BYTES);
+    if read_full(input, &mut buffer[..length])? != header.length {
+        return Ok(false);
     }
-}
-
-// Reads a case and runs it.
-fn run_case(rt: &impl Print, input: &mut impl Read, buffer: &mut [u8]) -> io::Result<Case> {
-    let case = read_case(input, buffer)?;
-    if case.there {
-        let length = buffer.len().min(case.length as usize);
-        run_chart(rt, case.edition, &buffer[..length], case.rows)?;
-    }
-    Ok(case)
+    run_chart(rt, header.edition, &buffer[..length], header.rows)?;
+    Ok(true)
 }
 
 // A proved loop has to end, and nothing says that the input does: so the turns are counted.
-fn run_rest(rt: &impl Print, input: &mut impl Read) -> io::Result<()> {
+fn run_rest(rt: &(impl Print + AllocGlobal), input: &mut impl Read) -> io::Result<()> {
     let mut buffer = [0u8; BUFFER_BYTES];
     for _ in 0..u64::MAX {
-        if !run_case(rt, input, &mut buffer)?.there {
+        let Some(header) = read_header(input)? else {
+            break;
+        };
+        if !run_case(rt, input, header, &mut buffer)? {
             break;
         }
     }
     Ok(())
 }
 
-// Writes what the flattener answers for a slot that has another length, and the slot's sum.
-fn tell_length(rt: &impl Print, name: &[u8], slot: &[u8], answer: u32) -> io::Result<()> {
-    let length = with_named(rt, text::empty(), name, slot.len() as u64)?;
-    let answered = with_named(rt, length, b" answer ", answer as u64)?;
-    text::write(rt, with_named(rt, answered, b" sum ", sum_of(slot))?)
+// Writes what the flattener answers for a slot of this length, and the slot's sum.
+fn try_length(
+    rt: &(impl Print + AllocGlobal),
+    edition: Edition,
+    chart: &[u8],
+    length: usize,
+) -> io::Result<()> {
+    let mut slot = vec![in rt.alloc(); FILL; length]?;
+    let answer = flatten(edition, chart, &mut slot);
+    let name = match edition {
+        Edition::Plain => "length",
+        Edition::Guarded => "guarded length",
+    };
+    println!(rt; "{name} {length} answer {answer} sum {}", sum_of(&slot))
 }
 
-fn try_slot(rt: &impl Print, chart: &[u8], slot: &mut [u8]) -> io::Result<()> {
-    let answer = flattener::chart_flatten(chart, slot);
-    tell_length(rt, b"length ", slot, answer)
-}
-
-fn try_guarded_slot(rt: &impl Print, chart: &[u8], slot: &mut [u8]) -> io::Result<()> {
-    let answer = flattener::chart_flatten_guarded(chart, slot);
-    tell_length(rt, b"guarded length ", slot, answer)
-}
-
-// The slot is a part of an array that is one byte longer than a slot should be.
-fn try_length(rt: &impl Print, chart: &[u8], length: u16) -> io::Result<()> {
-    let mut array = [FILL; SLOT_BYTES + 1];
-    let n = array.len().min(length as usize);
-    try_slot(rt, chart, &mut array[..n])
-}
-
-fn try_guarded_length(rt: &impl Print, chart: &[u8], length: u16) -> io::Result<()> {
-    let mut array = [FILL; GUARDED_AREA + 1];
-    let n = array.len().min(length as usize);
-    try_guarded_slot(rt, chart, &mut array[..n])
-}
-
-fn try_lengths(rt: &impl Print, chart: &[u8]) -> io::Result<()> {
-    try_length(rt, chart, 0)?;
-    try_length(rt, chart, 16151)?;
-    try_length(rt, chart, 16153)?;
-    try_guarded_length(rt, chart, 0)?;
-    try_guarded_length(rt, chart, 16152)?;
-    try_guarded_length(rt, chart, 32279)?;
-    try_guarded_length(rt, chart, 32281)
+// Lengths that are not the slot's.
+fn try_lengths(rt: &(impl Print + AllocGlobal), chart: &[u8]) -> io::Result<()> {
+    for length in [0, 16151, 16153] {
+        try_length(rt, Edition::Plain, chart, length)?;
+    }
+    for length in [0, 16152, 32279, 32281] {
+        try_length(rt, Edition::Guarded, chart, length)?;
+    }
+    Ok(())
 }
 
 // The first chart, which is good in both editions, is kept for the slots of other lengths.
 fn main(rt: HostRuntime) -> io::Result<()> {
     let mut input = rt.reader();
     let mut first = [0u8; BUFFER_BYTES];
-    let case = run_case(&rt, &mut input, &mut first)?;
+    let mut length = 0;
+    if let Some(header) = read_header(&mut input)? {
+        length = header.length.min(BUFFER_BYTES);
+        run_case(&rt, &mut input, header, &mut first)?;
+    }
     run_rest(&rt, &mut input)?;
-    let length = first.len().min(case.length as usize);
     try_lengths(&rt, &first[..length])
 }

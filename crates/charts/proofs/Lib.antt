@@ -1,3 +1,3 @@
--- Slots: LOAD and START, their tests and the objects that use a slot. Words: the flags of all objects, in words.
+-- Slots: the objects that use a slot. Words: the flags of all objects, in words.
 pub mod Slots
 pub mod Words

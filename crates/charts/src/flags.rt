@@ -1,5 +1,5 @@
 // The flags of all objects in eight words, one a flag: the set of the objects whose flag it is that is up.
-ghost use Rattle.std.specs.Prelude.{cond, ◌≡◌, ℕ, ◌≤◌, ◌<◌, eqb, length};
+ghost use Rattle.std.specs.Prelude.{cond, ◌≡◌, ℕ, ◌≤◌, ◌<◌, eqb};
 ghost use Rattle.bits.specs.Members.{members, put, width};
 ghost use Rattle.chart.specs.Flags.{all_down, in_words};
 ghost use Rattle.chart.specs.Numbers.{most_flag};
@@ -21,14 +21,15 @@ fn changed(w: u64, p: usize, value: bool) -> u64
     ensures { members result ≡ put p value (members w) }
 {
     if value {
-        return bits::with(w, p);
+        bits::with(w, p)
+    } else {
+        bits::without(w, p)
     }
-    bits::without(w, p)
 }
 
 // Flag f of object p is set or cleared.
 pub fn set(up: &mut [u64; FLAGS], p: usize, f: usize, value: bool)
-    requires { (p < width) × (1 ≤ f) × (f ≤ most_flag Guarded) × (length up.old ≡ most_flag Guarded) }
+    requires { (p < width) × (1 ≤ f) × (f ≤ most_flag Guarded) }
     ensures { in_words up.new ≡ (λ (x : ℕ). cond (eqb x p) (put f value (in_words up.old p)) (in_words up.old x)) }
 {
     up[f - 1] = changed(up[f - 1], p, value);
@@ -36,12 +37,10 @@ pub fn set(up: &mut [u64; FLAGS], p: usize, f: usize, value: bool)
 
 // All flags of object p are cleared.
 pub fn lower_all(up: &mut [u64; FLAGS], p: usize)
-    requires { (p < width) × (length up.old ≡ most_flag Guarded) }
+    requires { p < width }
     ensures { in_words up.new ≡ (λ (x : ℕ). cond (eqb x p) all_down (in_words up.old x)) }
 {
-    let mut i: usize = 0;
-    while i < FLAGS {
-        up[i] = bits::without(up[i], p);
-        i += 1;
+    for word in up.iter_mut() {
+        *word = bits::without(*word, p);
     }
 }

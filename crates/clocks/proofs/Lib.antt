@@ -1,2 +1,2 @@
--- Timers: ARM, DISARM and TICK, their tests and what TICK answers.
+-- Timers: ARM, DISARM and TICK, what their tests say and what TICK answers.
 pub mod Timers

@@ -1,19 +1,22 @@
 // What a record's bytes are to ARM, DISARM and TICK.
+#![tactic(auto, unfolding(machine::specs::Machine::choose, machine::specs::Machine::command))]
+
 ghost use Rattle.std.specs.Prelude.{List, ◌≡◌, ℕ};
 ghost use Rattle.machine.specs.Machine.{command};
 ghost use Rattle.machine.specs.Reply.{Areas};
-ghost use Rattle.state.specs.View.{answered, Good, state_of};
+ghost use Rattle.state.specs.View.{Good, state_of, told};
 
 use arguments::{arg, arg16, spoilt};
 use ground::byte_at;
-use state::{Answered, Kernel};
+use reply::{Reply, said};
+use state::Kernel;
 
 // ARM timer, p, signal, ticks, interval.
-pub fn arm_command(k: Kernel, record: &[u8]) -> Answered
-    requires { Good k }
-    ensures { (d : List ℕ) (z : Areas) → answered result z ≡ command 14 «record».now d (state_of k) z }
+pub fn arm_command(k: &mut Kernel, record: &[u8]) -> Reply
+    requires { Good k.old }
+    ensures { (d : List ℕ) (z : Areas) → told k.new result z ≡ command 14 «record».now d (state_of k.old) z }
 {
-    super::arm(
+    said(super::arm(
         k,
         spoilt(record, 7),
         arg(record, 1),
@@ -21,21 +24,21 @@ pub fn arm_command(k: Kernel, record: &[u8]) -> Answered
         byte_at(record, 3),
         arg16(record, 4),
         arg16(record, 6),
-    )
+    ))
 }
 
 // DISARM timer.
-pub fn disarm_command(k: Kernel, record: &[u8]) -> Answered
-    requires { Good k }
-    ensures { (d : List ℕ) (z : Areas) → answered result z ≡ command 15 «record».now d (state_of k) z }
+pub fn disarm_command(k: &mut Kernel, record: &[u8]) -> Reply
+    requires { Good k.old }
+    ensures { (d : List ℕ) (z : Areas) → told k.new result z ≡ command 15 «record».now d (state_of k.old) z }
 {
-    super::disarm(k, spoilt(record, 1), arg(record, 1))
+    said(super::disarm(k, spoilt(record, 1), arg(record, 1)))
 }
 
 // TICK.
-pub fn tick_command(k: Kernel, record: &[u8]) -> Answered
-    requires { Good k }
-    ensures { (d : List ℕ) (z : Areas) → answered result z ≡ command 16 «record».now d (state_of k) z }
+pub fn tick_command(k: &mut Kernel, record: &[u8]) -> Reply
+    requires { Good k.old }
+    ensures { (d : List ℕ) (z : Areas) → told k.new result z ≡ command 16 «record».now d (state_of k.old) z }
 {
-    super::tick(k, spoilt(record, 0))
+    said(super::tick(k, spoilt(record, 0)))
 }

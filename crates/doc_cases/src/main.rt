@@ -11,211 +11,130 @@
 // So the program has to write what it reads: stdout is a copy of stdin.
 #![tactic(auto)]
 
-ghost use Rattle.std.specs.Prelude.{◌≤◌, length, IfOk};
 ghost use Rattle.state.specs.View.{Good};
 
-use kernel::{Answered, Kernel};
-use numbers::{GUARDED_AREA, LOG_AREA, PAYLOAD_AREA, TABLE_AREA};
+use kernel::{Kernel, Reply};
+use player::KernelAreas;
+use std::alloc::Global;
 use std::io;
-use std::io::Read;
+use std::io::{BufWriter, Read, Write};
 use std::rt::Files;
-use text::Line;
-use words::Record;
+use text::ReplyBytes;
+use words::{Entry, Unreadable};
 
 // One byte more than a chart may have. A longer one is cut off there, and is still a chart that is too long.
 const CHART_ROOM: usize = numbers::LONGEST_CHART + 1;
 
-// A trace in play: its kernel, how many bytes of a chart are written, whether the trace goes on, and whether it ended
-// with the beginning of another.
-#[derive(Clone, Copy)]
-struct Run {
+// So many bytes of a line wait for its end: the front of a longer one is written before.
+const LINE_BYTES: usize = 256;
+
+// A trace in play, with the chart that stands before the next command.
+#[derive(Drop)]
+struct Trace {
     kernel: Kernel,
-    written: usize,
-    is_open: bool,
-    is_followed: bool,
+    areas: KernelAreas,
+    chart: Vec<u8>,
 }
 
-// Puts a record behind the first n bytes of the chart, as far as there is room, and answers how many bytes it has then.
-fn put_record(chart: &mut [u8], n: usize, record: Record) -> usize
-    requires { n ≤ length chart.old }
-    ensures { result ≤ length chart.new }
-{
-    let size = record.bytes.len().min(record.size as usize);
-    let room = chart.len() - n;
-    ground::fill(&mut chart[n..], &record.bytes[..size]);
-    if room < size { chart.len() } else { n + size }
-}
-
-// The answer to a record with the chart before it. Where there is none, a LOAD finds its chart in a file.
-fn answer(
-    rt: &impl Files,
-    k: Kernel,
-    record: &[u8],
-    chart: &[u8],
-    payloads: &mut [u8],
-    tables: &mut [u8],
-    guarded: &mut [u8],
-    log: &mut [u8],
-) -> io::Result<Answered>
-    requires { Good k }
-    ensures { IfOk result (λ answered. Good answered.kernel) }
-{
-    if chart.len() == 0 {
-        return player::answer(rt, k, record, player::HERE, payloads, tables, guarded, log);
-    }
-    Ok(kernel::command(k, record, chart, payloads, tables, guarded, log))
-}
-
-// Has a command answered with the chart before it, which no later command is lent, and writes its line with the reply.
-fn answer_command(
-    rt: &(impl Files + Print),
-    run: Run,
-    record: Record,
-    line: Line,
-    chart: &[u8],
-    payloads: &mut [u8],
-    tables: &mut [u8],
-    guarded: &mut [u8],
-    log: &mut [u8],
-) -> io::Result<Run>
-    requires good { Good run.kernel }
-    requires written { run.written ≤ length chart.now }
-    ensures good_2 { IfOk result (λ next. Good next.kernel) }
-    ensures written_2 { IfOk result (λ next. next.written ≤ length chart.now) }
-{
-    let n = run.written;
-    let size = record.bytes.len().min(record.size as usize);
-    let answered = answer(
-        rt,
-        run.kernel,
-        &record.bytes[..size],
-        &chart[..n],
-        payloads,
-        tables,
-        guarded,
-        log,
-    )?;
-    text::write(rt, text::with_reply(rt, line, answered.reply)?)?;
-    Ok(Run {
-        kernel: answered.kernel,
-        written: 0,
-        ..run
-    })
-}
-
-// Whether a record is for the kernel, and so has a reply.
-fn is_command(record: Record) -> bool {
-    !words::is_none(record) && record.name != words::FRESH && !words::is_chart_record(record)
-}
-
-// The run behind a line that is no command.
-fn after_line(run: Run, record: Record, chart: &mut [u8]) -> Run
-    requires good { Good run.kernel }
-    requires written { run.written ≤ length chart.old }
-    ensures good_2 { Good result.kernel }
-    ensures written_2 { result.written ≤ length chart.new }
-{
-    if record.name == words::FRESH {
-        return Run {
-            is_open: false,
-            is_followed: true,
-            ..run
-        };
-    }
-    if !words::is_chart_record(record) {
-        return run;
-    }
-    let n = run.written;
-    Run {
-        written: put_record(chart, n, record),
-        ..run
-    }
-}
-
-// Reads a line and writes it, with the reply if it is a command.
-fn turn(
-    rt: &(impl Files + Print),
-    input: &mut impl Read,
-    run: Run,
-    chart: &mut [u8],
-    payloads: &mut [u8],
-    tables: &mut [u8],
-    guarded: &mut [u8],
-    log: &mut [u8],
-) -> io::Result<Run>
-    requires good { Good run.kernel }
-    requires written { run.written ≤ length chart.old }
-    ensures good_2 { IfOk result (λ next. Good next.kernel) }
-    ensures written_2 { IfOk result (λ next. next.written ≤ length chart.new) }
-{
-    let reading = words::read_line(rt, input, true)?;
-    if !reading.is_there {
-        return Ok(Run {
-            is_open: false,
-            ..run
-        });
-    }
-    let line = reading.text;
-    let record = reading.record;
-    if record.is_wrong {
-        text::write(rt, text::with_bytes(rt, line, b" cannot be read")?)?;
-        return Ok(run);
-    }
-    if is_command(record) {
-        return answer_command(rt, run, record, line, chart, payloads, tables, guarded, log);
-    }
-    text::write(rt, line)?;
-    Ok(after_line(run, record, chart))
-}
-
-// A proved loop has to end, and nothing says that the input does: so the turns are counted.
-fn play_on(
-    rt: &(impl Files + Print),
-    input: &mut impl Read,
-    chart: &mut [u8],
-    payloads: &mut [u8],
-    tables: &mut [u8],
-    guarded: &mut [u8],
-    log: &mut [u8],
-) -> io::Result<bool> {
-    let mut run = Run {
-        kernel: kernel::fresh(),
-        written: 0,
-        is_open: true,
-        is_followed: false,
-    };
-    for _ in 0..u64::MAX {
-        if !run.is_open {
-            break;
+impl Trace {
+    fn new(alloc: Global) -> Trace
+        ensures { Good result.kernel }
+    {
+        Trace {
+            kernel: kernel::fresh(),
+            areas: KernelAreas::new(),
+            chart: Vec::new(alloc),
         }
-        run = turn(rt, input, run, chart, payloads, tables, guarded, log)?;
     }
-    Ok(run.is_followed)
+
+    // The reply to a record with the chart before it, which no later command is lent. Where there is none, a LOAD finds its chart in a
+    // file.
+    fn answer(&mut self, rt: &impl Files, record: &[u8]) -> io::Result<Reply>
+        requires { Good self.old.kernel }
+        ensures { Good self.new.kernel }
+    {
+        if self.chart.is_empty() {
+            return player::answer(
+                rt,
+                &mut self.kernel,
+                record,
+                player::HERE,
+                &mut self.areas.payloads,
+                &mut self.areas.tables,
+                &mut self.areas.guarded,
+                &mut self.areas.log,
+            );
+        }
+        let chart = self.chart.as_slice();
+        let reply = self.areas.command(&mut self.kernel, record, chart);
+        self.chart.clear();
+        Ok(reply)
+    }
+
+    // Writes the end of a line that was read, with the reply if it is a command. Answers whether the trace goes on behind it.
+    fn end_line(
+        &mut self,
+        rt: &impl Files,
+        line: Result<Entry, Unreadable>,
+        out: &mut impl Write,
+    ) -> io::Result<bool>
+        requires { Good self.old.kernel }
+        ensures { Good self.new.kernel }
+    {
+        match line {
+            Err(Unreadable) => writeln!(out, " cannot be read")?,
+            Ok(Entry::Nothing) => writeln!(out)?,
+            Ok(Entry::Fresh) => {
+                writeln!(out)?;
+                return Ok(false);
+            }
+            Ok(Entry::ChartRecord(record)) => {
+                writeln!(out)?;
+                self.chart.extend_from_slice(record.as_slice())?;
+                self.chart.truncate(CHART_ROOM);
+            }
+            Ok(Entry::Command(record)) => {
+                let reply = self.answer(rt, record.as_slice())?;
+                writeln!(out, "{}", ReplyBytes(reply))?;
+            }
+        }
+        Ok(true)
+    }
 }
 
-// Plays a trace, and answers whether another follows.
-fn play_trace(rt: &(impl Files + Print), input: &mut impl Read) -> io::Result<bool> {
-    let mut chart = [0u8; CHART_ROOM];
-    let mut payloads = [0u8; PAYLOAD_AREA];
-    let mut tables = [0u8; TABLE_AREA];
-    let mut guarded = [0u8; GUARDED_AREA];
-    let mut log = [0u8; LOG_AREA];
-    play_on(
-        rt,
-        input,
-        &mut chart,
-        &mut payloads,
-        &mut tables,
-        &mut guarded,
-        &mut log,
-    )
+// Plays a trace: echoes each line as it is read, and ends it. Answers whether another trace follows.
+// A proved loop has to end, and nothing says that the input does: so the turns are counted.
+fn play_trace(
+    rt: &(impl Files + AllocGlobal),
+    input: &mut impl Read,
+    out: &mut impl Write,
+) -> io::Result<bool> {
+    let mut trace = Trace::new(rt.alloc());
+    for _ in 0..u64::MAX {
+        let Some(line) = words::read_line(input, out)? else {
+            break;
+        };
+        let goes_on = trace.end_line(rt, line, out)?;
+        out.flush()?;
+        if !goes_on {
+            return Ok(true);
+        }
+    }
+    Ok(false)
 }
 
+// The text of a line that ends in an error is let go, as far as it still waits in its buffer.
 fn main(rt: HostRuntime) -> io::Result<()> {
     let mut input = rt.reader();
+    let mut out = BufWriter::with_capacity(rt.alloc(), LINE_BYTES, io::writer(&rt))?;
     for _ in 0..u64::MAX {
-        if !play_trace(&rt, &mut input)? {
-            break;
+        match play_trace(&rt, &mut input, &mut out) {
+            Ok(true) => {}
+            Ok(false) => break,
+            Err(error) => {
+                let _unwritten = out.into_parts();
+                return Err(error);
+            }
         }
     }
     Ok(())

@@ -27,7 +27,6 @@ use Rattle.machine.specs.State.{State, rest_of, slot_of}
 use Rattle.machine.specs.Steps.{to_run, slot_to_run, coming, signal_of, next_answer, next_rows, step_tests}
 use Rattle.mail.specs.Box.{box_at, front, highest, highest_of}
 use Rattle.mail.specs.Entry.{hand_of}
-use Rattle.mail.specs.View.{boxes, boxes-length, queued_in}
 use Rattle.pool.specs.Cell.{free, absent, generation_of}
 use Rattle.pool.specs.Row.{blocks, generation_at}
 use Rattle.drain.specs.Lent.{Above, Generations, Lies, Looks, Runs}
@@ -58,16 +57,12 @@ module _ (bs : List (List ℕ)) (p : ℕ) (above : Above p bs) where
   pub top_is : 0 < p → p ≤ length bs → (length (box_at bs (p - 1)) ≡ 0 → ⊥) → p ≡ highest bs
   top_is l h ne = top_of (length bs) l h ne
 
-  above_below : length (box_at bs (p - 1)) ≡ 0 → Above (p - 1) bs
+  pub above_below : length (box_at bs (p - 1)) ≡ 0 → Above (p - 1) bs
   above_below e q h = ⊎_elim (λ z. rw z e) (λ d. above q (omega arith)) (eq_or q (p - 1))
 
 -- at first all of them
-pub above_all : (pl hs cs : List ℕ) → Above (length cs) (boxes pl hs cs)
-above_all pl hs cs q h = ap length (get_or-eq_default (boxes pl hs cs) [] (omega (arith, boxes-length pl hs cs)))
-
--- an object whose count is 0 has no mail either
-pub above_empty : (pl hs cs : List ℕ) (p : ℕ) → Above p (boxes pl hs cs) → get_or cs (p - 1) 0 ≡ 0 → Above (p - 1) (boxes pl hs cs)
-above_empty pl hs cs p above e = above_below (boxes pl hs cs) p above (queued_in pl hs cs (p - 1) ∙ e)
+pub above_all : (bs : List (List ℕ)) (n : ℕ) → length bs ≤ n → Above n bs
+above_all bs n l q h = ap length (get_or-eq_default bs [] (omega arith))
 
 none_of : (bs : List (List ℕ)) → Above 0 bs → (n : ℕ) → highest_of bs n ≡ 0
 unfolding highest_of

@@ -4,18 +4,22 @@
 
 use std::io;
 use std::io::Read;
+use words::{Entry, Unreadable};
 
 // Writes the record of the next line, and answers whether there may be another line.
 fn encode_line(rt: &(impl Print + Eprint), input: &mut impl Read, number: u64) -> io::Result<bool> {
-    let line = words::read_line(rt, input, false)?;
-    let record = line.record;
-    if record.is_wrong || record.name == words::FRESH {
-        eprintln!(rt; "line {number} cannot be read")?;
-        return Ok(false);
+    match words::read_line(input, &mut io::sink())? {
+        None => return Ok(false),
+        Some(Ok(Entry::Nothing)) => {}
+        Some(Ok(Entry::Command(record) | Entry::ChartRecord(record))) => {
+            rt.write_all(record.as_slice())?;
+        }
+        Some(Ok(Entry::Fresh) | Err(Unreadable)) => {
+            eprintln!(rt; "line {number} cannot be read")?;
+            return Ok(false);
+        }
     }
-    let size = record.bytes.len().min(record.size as usize);
-    rt.write_all(&record.bytes[..size])?;
-    Ok(line.is_there)
+    Ok(true)
 }
 
 // A proved loop has to end, and nothing says that the input does: so the lines are counted up to a number.

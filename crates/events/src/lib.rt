@@ -3,218 +3,143 @@
 
 pub mod records;
 
-ghost use Rattle.std.specs.Prelude.{false, ◌≡◌, ℕ, ◌-◌, ◌<◌, ◌≤◌, get_or, set};
+ghost use Rattle.std.specs.Prelude.{false, ◌≡◌, ℕ, ◌<◌, ◌≤◌, get_or};
 ghost use Rattle.machine.specs.Events as machine;
-ghost use Rattle.machine.specs.Events.{full_receiver, post_tests, posted, posted_front, publish_done};
+ghost use Rattle.machine.specs.Events.{full_receiver, post_tests, publish_done};
 ghost use Rattle.machine.specs.Numbers.{blocks, objects};
 ghost use Rattle.machine.specs.Reply.{Areas, lowest};
-ghost use Rattle.machine.specs.State.{with_cells, with_holds, with_marks};
 ghost use Rattle.mail.specs.Box.{room};
-ghost use Rattle.pool.specs.View.{cells, marks};
-ghost use Rattle.state.specs.View.{answered, Good, state_of};
+ghost use Rattle.refusals.specs.Refused.{answer_number};
+ghost use Rattle.state.specs.View.{Good, outcome, state_of, told};
 
-use ground::{byte_at, one, wide};
-use mail::{of_object, room_of};
-use numbers::answer::{FULL, HOLDS, INUSE};
-use pool::Pool;
-use refusals::{handle_refusal, post_refusal};
-use state::{Answered, Kernel, refuse};
+use ground::byte_at;
+use mail::{Hand, entry_of};
+use numbers::answer::Refusal;
+use pool::Handle;
+use refusals::{handle_refusal, post_refusal, refuse_if};
+use reply::Reply;
+use state::Kernel;
 
 const MOST_HOLDS: u8 = 15;
 
-// Block b goes to the back of p's mailbox, which has room.
-fn post_back(mut k: Kernel, b: usize, p: usize) -> Kernel
-    requires { (b < blocks) × (1 ≤ p) × (p ≤ objects) × (get_or k.counts (p - 1) 0 < room) }
-    ensures { state_of result ≡ posted (state_of k) b p }
+// The tests of POST; those of POSTFRONT are the same with margin 0. A closure for the one call in which the two differ would be no plainer.
+fn may_post(
+    k: &Kernel,
+    spoilt: bool,
+    handle: Handle,
+    p: usize,
+    margin: usize,
+) -> Result<(), Refusal>
+    ensures { answer_number result ≡ lowest (post_tests spoilt handle.block handle.generation p margin (state_of k.now)) }
 {
-    let mut places = k.places;
-    let heads = k.heads;
-    let mut counts = k.counts;
-    mail::push_back(&mut places, &heads, &mut counts, p - 1, 1 + b as u16);
-    let pool = pool::add(k.pool, b);
-    k.places = places;
-    k.counts = counts;
-    k.pool = pool;
-    k
-}
-
-// The tests of POST; those of POSTFRONT are the same with margin 0.
-fn post_no(k: Kernel, spoilt: bool, b: usize, generation: u32, p: usize, margin: usize) -> u8
-    ensures { result ≡ lowest (post_tests spoilt b generation p margin (state_of k)) }
-{
-    let depths = k.depths;
-    let counts = k.counts;
-    let depth = of_object(&depths, p);
-    let free = room_of(depth, of_object(&counts, p));
-    let stale = pool::stale(k.pool, b, generation);
-    post_refusal(spoilt, b, p, margin, stale, depth != 0, free)
+    let stale = k.pool.is_stale(handle);
+    post_refusal(
+        spoilt,
+        handle.block,
+        p,
+        margin,
+        stale,
+        k.is_started(p),
+        k.room(p),
+    )
 }
 
 // POST handle, p, margin.
-pub fn post(k: Kernel, spoilt: bool, b: usize, generation: u32, p: usize, margin: usize) -> Answered
-    requires { Good k }
-    ensures { (z : Areas) → answered result z ≡ machine.post spoilt b generation p margin (state_of k) z }
+pub fn post(
+    k: &mut Kernel,
+    spoilt: bool,
+    handle: Handle,
+    p: usize,
+    margin: usize,
+) -> Result<Reply, Refusal>
+    requires { Good k.old }
+    ensures { (z : Areas) → outcome k.new result z ≡ machine.post spoilt handle.block handle.generation p margin (state_of k.old) z }
 {
-    let no = post_no(k, spoilt, b, generation, p, margin);
-    if no != 0 {
-        return refuse(k, no);
-    }
-    let counts = k.counts;
-    Answered {
-        kernel: post_back(k, b, p),
-        reply: reply::done(counts[p - 1] + 1, 0),
-    }
-}
-
-// Block b goes to the front of p's mailbox, which has room.
-fn post_ahead(mut k: Kernel, b: usize, p: usize) -> Kernel
-    requires { (b < blocks) × (1 ≤ p) × (p ≤ objects) × (get_or k.counts (p - 1) 0 < room) }
-    ensures { state_of result ≡ posted_front (state_of k) b p }
-{
-    let mut places = k.places;
-    let mut heads = k.heads;
-    let mut counts = k.counts;
-    mail::push_front(&mut places, &mut heads, &mut counts, p - 1, 1 + b as u16);
-    let pool = pool::add(k.pool, b);
-    k.places = places;
-    k.heads = heads;
-    k.counts = counts;
-    k.pool = pool;
-    k
+    may_post(k, spoilt, handle, p, margin)?;
+    let queued = k.queued(p) as u8;
+    k.mail[p - 1].push_back(entry_of(Hand::Block(handle.block as u8)));
+    k.pool.add(handle.block);
+    Ok(reply::done(queued + 1, 0))
 }
 
 // POSTFRONT handle, p.
-pub fn post_front(k: Kernel, spoilt: bool, b: usize, generation: u32, p: usize) -> Answered
-    requires { Good k }
-    ensures { (z : Areas) → answered result z ≡ machine.post_front spoilt b generation p (state_of k) z }
+pub fn post_front(k: &mut Kernel, spoilt: bool, handle: Handle, p: usize) -> Result<Reply, Refusal>
+    requires { Good k.old }
+    ensures { (z : Areas) → outcome k.new result z ≡ machine.post_front spoilt handle.block handle.generation p (state_of k.old) z }
 {
-    let no = post_no(k, spoilt, b, generation, p, 0);
-    if no != 0 {
-        return refuse(k, no);
-    }
-    let counts = k.counts;
-    Answered {
-        kernel: post_ahead(k, b, p),
-        reply: reply::done(counts[p - 1] + 1, 0),
-    }
+    may_post(k, spoilt, handle, p, 0)?;
+    let queued = k.queued(p) as u8;
+    k.mail[p - 1].push_front(entry_of(Hand::Block(handle.block as u8)));
+    k.pool.add(handle.block);
+    Ok(reply::done(queued + 1, 0))
 }
 
-// What PUBLISH does where every subscriber to the event's signal g has a place. The posts' references are added at once: a pool in their
-// loop is copied for each of them.
-fn publish_done(mut k: Kernel, b: usize, g: usize) -> Answered
-    requires b_lt_blocks { (b < blocks) × (g < 256) × (g ≡ get_or k.signals b 0) }
-    requires objects_value { (full_receiver (state_of k) g objects ≡ false) × ((q : ℕ) → get_or k.depths q 0 ≤ room) }
-    ensures { (z : Areas) → answered result z ≡ publish_done (machine.receivers (state_of k) g objects) b (state_of k) z }
+// What PUBLISH does where every subscriber to the event's signal g has a place. The posts' references are added at once.
+fn publish_to_all(k: &mut Kernel, b: usize, g: usize) -> Reply
+    requires block { (b < blocks) × (g < 256) × (g ≡ get_or k.old.signals b 0) }
+    requires places { (full_receiver (state_of k.old) g objects ≡ false) × ((q : ℕ) → get_or k.old.depths q 0 ≤ room) }
+    ensures { (z : Areas) → told k.new result z ≡ publish_done (machine.receivers (state_of k.old) g objects) b (state_of k.old) z }
 {
-    let wants = k.wants;
-    let mut places = k.places;
-    let heads = k.heads;
-    let mut counts = k.counts;
-    let n = publish::post_to_all(&wants, &mut places, &heads, &mut counts, b, g);
+    let n = publish::post_to_all(&k.wants, &mut k.mail, b, g);
     if n == 0 {
-        let gone = pool::drop_new(k.pool, b);
-        return Answered {
-            kernel: with_pool(k, gone.pool),
-            reply: reply::done(0, one(gone.freed)),
-        };
+        let freed = k.pool.drop_new(b);
+        return reply::done(0, u8::from(freed));
     }
-    let pool = pool::add_some(k.pool, b, n);
-    k.places = places;
-    k.counts = counts;
-    k.pool = pool;
-    Answered {
-        kernel: k,
-        reply: reply::done(n, 0),
-    }
+    k.pool.add_some(b, n);
+    reply::done(n, 0)
 }
 
 // PUBLISH handle. Whether a subscriber has no place is known before the first gets the event: all or none.
-pub fn publish(k: Kernel, spoilt: bool, b: usize, generation: u32) -> Answered
-    requires { Good k }
-    ensures { (z : Areas) → answered result z ≡ machine.publish spoilt b generation (state_of k) z }
+pub fn publish(k: &mut Kernel, spoilt: bool, handle: Handle) -> Result<Reply, Refusal>
+    requires { Good k.old }
+    ensures { (z : Areas) → outcome k.new result z ≡ machine.publish spoilt handle.block handle.generation (state_of k.old) z }
 {
-    let signals = k.signals;
-    let wants = k.wants;
-    let depths = k.depths;
-    let counts = k.counts;
-    let g = wide(byte_at(&signals, b));
-    let stale = pool::stale(k.pool, b, generation);
-    let full = publish::any_full(&wants, &depths, &counts, g);
-    let no = handle_refusal(spoilt, b, stale, FULL, full);
-    if no != 0 {
-        return refuse(k, no);
-    }
-    publish_done(k, b, g)
-}
-
-// The kernel with another pool and n holds on block b.
-fn with_holds(mut k: Kernel, pool: Pool, b: usize, n: u8) -> Kernel
-    requires { b < blocks }
-    ensures { state_of result ≡ with_holds (set k.holds b n) (with_marks (marks pool) (with_cells (cells pool) (state_of k))) }
-{
-    k.holds[b] = n;
-    k.pool = pool;
-    k
+    let b = handle.block;
+    let g = usize::from(byte_at(&k.signals, b));
+    let full = publish::any_full(&k.wants, &k.depths, &k.mail, g);
+    handle_refusal(spoilt, b, k.pool.is_stale(handle), Refusal::Full, full)?;
+    Ok(publish_to_all(k, b, g))
 }
 
 // HOLD handle: a hold is a reference.
-pub fn hold(k: Kernel, spoilt: bool, b: usize, generation: u32) -> Answered
-    requires { Good k }
-    ensures { (z : Areas) → answered result z ≡ machine.hold spoilt b generation (state_of k) z }
+pub fn hold(k: &mut Kernel, spoilt: bool, handle: Handle) -> Result<Reply, Refusal>
+    requires { Good k.old }
+    ensures { (z : Areas) → outcome k.new result z ≡ machine.hold spoilt handle.block handle.generation (state_of k.old) z }
 {
-    let holds = k.holds;
-    let n = byte_at(&holds, b);
-    let stale = pool::stale(k.pool, b, generation);
-    let no = handle_refusal(spoilt, b, stale, HOLDS, MOST_HOLDS <= n);
-    if no != 0 {
-        return refuse(k, no);
-    }
-    Answered {
-        kernel: with_holds(k, pool::add(k.pool, b), b, n + 1),
-        reply: reply::done(n + 1, 0),
-    }
+    let b = handle.block;
+    let n = byte_at(&k.holds, b);
+    handle_refusal(
+        spoilt,
+        b,
+        k.pool.is_stale(handle),
+        Refusal::Holds,
+        MOST_HOLDS <= n,
+    )?;
+    k.holds[b] = n + 1;
+    k.pool.add(b);
+    Ok(reply::done(n + 1, 0))
 }
 
 // RELEASE handle: the last reference frees the event.
-pub fn release(k: Kernel, spoilt: bool, b: usize, generation: u32) -> Answered
-    requires { Good k }
-    ensures { (z : Areas) → answered result z ≡ machine.release spoilt b generation (state_of k) z }
+pub fn release(k: &mut Kernel, spoilt: bool, handle: Handle) -> Result<Reply, Refusal>
+    requires { Good k.old }
+    ensures { (z : Areas) → outcome k.new result z ≡ machine.release spoilt handle.block handle.generation (state_of k.old) z }
 {
-    let holds = k.holds;
-    let n = byte_at(&holds, b);
-    let stale = pool::stale(k.pool, b, generation);
-    let no = handle_refusal(spoilt, b, stale, HOLDS, n == 0);
-    if no != 0 {
-        return refuse(k, no);
-    }
-    let gone = pool::let_go(k.pool, b);
-    Answered {
-        kernel: with_holds(k, gone.pool, b, n - 1),
-        reply: reply::done(n - 1, one(gone.freed)),
-    }
+    let b = handle.block;
+    let n = byte_at(&k.holds, b);
+    handle_refusal(spoilt, b, k.pool.is_stale(handle), Refusal::Holds, n == 0)?;
+    k.holds[b] = n - 1;
+    let freed = k.pool.let_go(b);
+    Ok(reply::done(n - 1, u8::from(freed)))
 }
 
-// The kernel with another pool.
-fn with_pool(mut k: Kernel, pool: Pool) -> Kernel
-    ensures { state_of result ≡ with_marks (marks pool) (with_cells (cells pool) (state_of k)) }
+// DROP handle: frees a new event. Where the event is not new, which is the last test, nothing changes.
+pub fn drop_event(k: &mut Kernel, spoilt: bool, handle: Handle) -> Result<Reply, Refusal>
+    requires { Good k.old }
+    ensures { (z : Areas) → outcome k.new result z ≡ machine.drop_event spoilt handle.block handle.generation (state_of k.old) z }
 {
-    k.pool = pool;
-    k
-}
-
-// DROP handle: frees a new event.
-pub fn drop_event(k: Kernel, spoilt: bool, b: usize, generation: u32) -> Answered
-    requires { Good k }
-    ensures { (z : Areas) → answered result z ≡ machine.drop_event spoilt b generation (state_of k) z }
-{
-    let stale = pool::stale(k.pool, b, generation);
-    let gone = pool::drop_new(k.pool, b);
-    let no = handle_refusal(spoilt, b, stale, INUSE, !gone.freed);
-    if no != 0 {
-        return refuse(k, no);
-    }
-    Answered {
-        kernel: with_pool(k, gone.pool),
-        reply: reply::done(0, 0),
-    }
+    let b = handle.block;
+    handle_refusal(spoilt, b, k.pool.is_stale(handle), Refusal::InUse, false)?;
+    refuse_if(!k.pool.drop_new(b), Refusal::InUse)?;
+    Ok(reply::done(0, 0))
 }

@@ -2,6 +2,7 @@
 pub mod Cutting
 pub mod Feeding
 pub mod Intact
+pub mod Opened
 pub mod RoundTrip
 pub mod Sending
 pub mod Steps

@@ -1,12 +1,12 @@
 -- What is written is read back: a frame where one starts, and frames one after the other.
-use Rattle.std.proofs.Common.{◌≡◌, ℕ, ◌+◌, ◌-◌, ◌<◌, ◌≤◌, Bool, true, false, eqb, ltb, List, [], ◌∷◌, ◌++◌, length, get_or, take, drop, sym, refl, ◌∙◌, append_assoc, append-nil, arith, length-append, take_at, ltb-false, lt-ltb, eq-eqb, eqb-true, le-leb}
+use Rattle.std.proofs.Common.{◌≡◌, ℕ, ◌+◌, ◌-◌, ◌<◌, ◌≤◌, Bool, true, false, eqb, ltb, List, [], ◌∷◌, ◌++◌, length, get_or, take, drop, Ok, Err, refl, ◌∙◌, append_assoc, append-nil, arith, length-append, take_at, ltb-false, lt-ltb, eq-eqb, eqb-true, le-leb}
 use lib.Seq.{get_or_at, take-append_seam}
-use Rattle.ground.specs.Bools.{no_yes}
 use Rattle.frame.specs.Demands.{ReadBack, InOrder, Resumed}
 use Rattle.frame.specs.Reading.{Last, state, none, number, plain, fresh, pushed, taken, front, fits, gap_at, frame, ended, last_in, given, after, given_all, after_all}
 use Rattle.frame.specs.Terms.{Sent, stream, as_sent, resumed, last_out}
 use Rattle.frame.specs.Wire.{sent, sent_all, check_of, unescaped, frame_bytes, following}
 use Rattle.frame.specs.Writing.{refused, written, area_after}
+use Rattle.frame.specs.declared.writer.WriteError.TheVariants.{TooManyData, TooLittleRoom}
 use Rattle.frame.proofs.Cutting.{Quiet, quiet_none, quiet_then, given_then, after_then, cut_given, at-start}
 use Rattle.frame.proofs.Sending.{unescaped-length}
 
@@ -68,22 +68,18 @@ module _ (m : Last) where
       round_after = after_then _ _ (sent_all (unescaped n k d)) (0x7E ∷ []) quiet_whole ∙ rw whole_ended refl
 
 -- A frame that was written.
-short : (room n k : ℕ) (d : List ℕ) → refused room n k d ≡ false → length d ≤ 93
-unfolding refused
-short room n k d e = go (ltb 93 (length d)) refl
-  where
-    go : (t : Bool) → ltb 93 (length d) ≡ t → length d ≤ 93
-    go true f = no_yes (sym (rw f at e))
-    go false f = ltb-false 93 (length d) f
-
 pub read_back : ReadBack
-unfolding written area_after
-read_back out n k d m h = go (refused (length out) n k d) refl
+unfolding refused written area_after
+read_back out n k d m w h = go (ltb 93 (length d)) (ltb (length out) (length (frame_bytes n k d))) refl refl
   where
-    go : (t : Bool) → refused (length out) n k d ≡ t →
-        given_all (state (plain []) m) (take (written (length out) n k d).length (area_after out n k d)) ≡ frame m n k d ∷ []
-    go true e = no_yes (rw e at h)
-    go false e = rw (e, take-append_seam (frame_bytes n k d) (drop (length (frame_bytes n k d)) out)) (round_given m n k d (short _ n k d e))
+    go : (t v : Bool) → ltb 93 (length d) ≡ t → ltb (length out) (length (frame_bytes n k d)) ≡ v →
+        given_all (state (plain []) m) (take w.length (area_after out n k d)) ≡ frame m n k d ∷ []
+    go true v e f = let no : Err TooManyData ≡ Ok w = rw e at h in absurd (cc)
+    go false true e f = let no : Err TooLittleRoom ≡ Ok w = rw (e, f) at h in absurd (cc)
+    go false false e f =
+        let is : Ok record { length = length (frame_bytes n k d); next = following n } ≡ Ok w = rw (e, f) at h in
+        let size : w ≡ record { length = length (frame_bytes n k d); next = following n } = cc in
+        rw (e, f, size, take-append_seam (frame_bytes n k d) (drop (length (frame_bytes n k d)) out)) (round_given m n k d (ltb-false 93 (length d) e))
 
 -- Frames one after the other, where a frame starts: no more, and one more.
 no_more : (m : Last) (n : ℕ) → given_all (state (plain []) m) (stream n []) ≡ []

@@ -1,5 +1,7 @@
 -- Laws of the writer: the sum of bytes, what is sent for them and for a frame, and storing that in an area, piece after piece.
-use Rattle.std.proofs.Common.{◌≡◌, ℕ, suc, ◌+◌, ◌*◌, ◌%◌, ◌<◌, ◌≤◌, Bool, true, false, cond, eqb, List, [], ◌∷◌, ◌++◌, length, get_or, take, drop, set, sym, refl, ap, ◌∙◌, append_assoc, append-nil, add-zero, add-one, arith, length-append, length-set, drop_of_length-le, drop-cons, take-suc}
+use Rattle.std.proofs.Common.{◌≡◌, ℕ, suc, ◌+◌, ◌*◌, ◌<◌, ◌≤◌, Bool, true, false, cond, eqb, List, [], ◌∷◌, ◌++◌, length, get_or, drop, set, sym, refl, ap, ◌∙◌, append_assoc, append-nil, add-zero, add-one, arith, length-append, length-set, drop_of_length-le, drop-cons}
+use Rattle.std.proofs.lemmas.List.Sums.{sum_by-cons}
+use Rattle.std.specs.Prelude.{map, sum_by}
 use lib.Seq.{sets, sets-eq}
 use Rattle.frame.specs.Stores.{stored, Puts}
 use Rattle.frame.specs.Wire.{sent, sent_all, sum, check_of, unescaped, frame_bytes}
@@ -13,6 +15,11 @@ pub sent-snoc : (u : List ℕ) (x : ℕ) → sent_all (u ++ (x ∷ [])) ≡ sent
 unfolding sent_all
 sent-snoc u x = sent-append u (x ∷ []) ∙ ap (λ l. sent_all u ++ l) (append-nil (sent x))
 
+pub sent_sizes : (l : List ℕ) → sum_by (λ x. x) (map (λ b. length (sent b)) l) ≡ length (sent_all l)
+unfolding sent_all
+sent_sizes [] = refl
+sent_sizes (b ∷ l) = sum_by-cons (λ x. x) (length (sent b)) (map (λ b. length (sent b)) l) ∙ rw (sent_sizes l) (sym (length-append (sent b) (sent_all l)))
+
 -- a byte is sent as two at most, and so has every frame room in 193
 sent_most : (b : ℕ) → length (sent b) ≤ 2
 unfolding sent
@@ -23,7 +30,7 @@ sent_most b = go (eqb b 0x7E) (eqb b 0x7D)
     go false true = omega arith
     go false false = omega arith
 
-sent_all_most : (l : List ℕ) → length (sent_all l) ≤ 2 * length l
+pub sent_all_most : (l : List ℕ) → length (sent_all l) ≤ 2 * length l
 unfolding sent_all
 sent_all_most [] = omega arith
 sent_all_most (b ∷ l) = rw (length-append (sent b) (sent_all l)) (omega (arith, sent_most b, sent_all_most l))
@@ -53,8 +60,8 @@ sum_one : (x : ℕ) → sum (x ∷ []) ≡ x
 unfolding sum
 sum_one x = add-zero x
 
-pub sum-turn : (s : List ℕ) (i t : ℕ) → i < length s → t ≡ sum (take i s) % 256 → (t + get_or s i 0) % 256 ≡ sum (take (i + 1) s) % 256
-sum-turn s i t h e = rw (add-one, take-suc s i 0 h, sum-append (take i s) (get_or s i 0 ∷ []), sum_one (get_or s i 0), e) (omega arith)
+pub sum-push : (l : List ℕ) (x : ℕ) → sum (l ++ (x ∷ [])) ≡ sum l + x
+sum-push l x = rw (sum-append l (x ∷ []), sum_one x) refl
 
 sets_append : (l : List ℕ) (i : ℕ) (a b : List ℕ) → sets l i (a ++ b) ≡ sets (sets l i a) (i + length a) b
 sets_append l i [] b = rw add-zero refl

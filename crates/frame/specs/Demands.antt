@@ -1,10 +1,11 @@
 -- What request 10 of document 02 asks of writer and reader together, of any data and any input. Each statement is a type; its proof has
 -- the same name in small letters.
-use Rattle.std.specs.Prelude.{◌≡◌, ℕ, ◌≤◌, true, List, [], ◌∷◌, ◌++◌, length, take, drop}
+use Rattle.std.specs.Prelude.{◌≡◌, ℕ, ◌≤◌, Ok, List, [], ◌∷◌, ◌++◌, length, take, drop}
 use Rattle.frame.specs.Reading.{State, Last, Frame, plain, state, fresh, frame, given, given_all, after_all, Feeds}
 use Rattle.frame.specs.Terms.{Sent, stream, as_sent, resumed, Starts, last_out, Intact}
 use Rattle.frame.specs.Wire.{most_data, frame_bytes}
 use Rattle.frame.specs.Writing.{written, area_after}
+use Rattle.frame.specs.declared.writer.Written.{Written}
 
 -- "The reader takes input in pieces cut anywhere and gives the same records."
 abbrev pub Cut : Type 0
@@ -19,8 +20,8 @@ Onward =
 -- What the writer writes, the reader hands out, wherever a frame starts;
 abbrev pub ReadBack : Type 0
 ReadBack =
-    (out : List ℕ) (n k : ℕ) (d : List ℕ) (m : Last) → let w = written (length out) n k d in
-    w.done ≡ true → given_all (state (plain []) m) (take w.length (area_after out n k d)) ≡ frame m n k d ∷ []
+    (out : List ℕ) (n k : ℕ) (d : List ℕ) (m : Last) (w : Written) → written (length out) n k d ≡ Ok w →
+    given_all (state (plain []) m) (take w.length (area_after out n k d)) ≡ frame m n k d ∷ []
 
 -- and frame by frame, without a gap.
 abbrev pub InOrder : Type 0

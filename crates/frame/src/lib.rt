@@ -4,10 +4,8 @@
 pub mod reader;
 pub mod writer;
 
-ghost use Rattle.std.specs.Prelude.{◌≡◌, ◌%◌, ◌≤◌, length, take};
+ghost use Rattle.std.specs.Prelude.{◌≡◌, ◌%◌};
 ghost use Rattle.frame.specs.Wire.{following, sum};
-
-use std::num::wrapping_add_u8;
 
 // Ends a frame.
 pub const FLAG: u8 = 0x7E;
@@ -27,23 +25,19 @@ pub const MOST_DATA: usize = 93;
 // So many bytes has the longest frame as it is sent: each byte escaped, and FLAG.
 pub const LONGEST: usize = 2 * MOST_BYTES + 1;
 
-// The sum of the first n bytes, modulo 256.
-fn sum_of(s: &[u8], n: usize) -> u8
-    requires { n ≤ length s.now }
-    ensures { result ≡ sum (take n s.now) % 256 }
+// The sum of bytes, modulo 256.
+fn sum_of(bytes: &[u8]) -> u8
+    ensures { result ≡ sum bytes.now % 256 }
 {
-    let mut t = 0u8;
-    let mut i = 0;
-    while i < n {
-        t = wrapping_add_u8(t, s[i]);
-        i += 1;
-    }
-    t
+    bytes
+        .iter()
+        .fold(0u8, |total, byte| total.wrapping_add(*byte))
 }
 
 // The number of the frame that follows.
+#[tactic(auto, unfolding(crate::specs::Wire::following))]
 fn next_number(n: u8) -> u8
     ensures { result ≡ following n }
 {
-    wrapping_add_u8(n, 1)
+    n.wrapping_add(1)
 }

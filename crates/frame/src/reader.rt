@@ -1,12 +1,9 @@
-// The reader: a state by value that is fed the input in pieces, cut anywhere, and hands out the frames in it.
-ghost use Rattle.std.specs.Prelude.{◌≡◌, ◌≤◌, true, ◌&&◌, [], length, take, ◌==◌};
-ghost use Rattle.frame.specs.Inside.{Finishes, Stands, is_whole, last_of, next_part, part_of};
-ghost use Rattle.frame.specs.Reading.{Feeds, fits, fresh, gap_at, pushed, taken};
-ghost use Rattle.frame.specs.View.{Within, fed_of, frames_of, state_of};
+// The reader: memory that is fed the input in pieces, cut anywhere, and hands out the frames in it.
+ghost use Rattle.std.specs.Prelude.{◌≡◌, ◌≤◌, length, take, drop};
+ghost use Rattle.frame.specs.Reading.{Feeds, after, ended, fresh, gap_at, given, pushed, state, taken};
 ghost use Rattle.frame.specs.Wire.{most_bytes, most_data};
 
 use super::*;
-use ground::one;
 
 // The fewest bytes that a frame has unescaped: a number, a record number and the check byte.
 const LEAST_BYTES: usize = 3;
@@ -17,17 +14,18 @@ pub const DATA: usize = 2;
 // A length that is no frame's any more.
 const SPOILT: u8 = MOST_BYTES as u8 + 1;
 
-// What has come since the last FLAG: the first `length` of a reader's bytes, and whether ESCAPE came behind them. With a length above
-// MOST_BYTES it can be no frame any more.
-#[derive(Clone, Copy)]
-struct Part {
-    length: u8,
-    escaped: bool,
+// What has come since the last FLAG: so many bytes (unescaped), the same and then ESCAPE, or what can be no frame any more.
+#[derive(Clone, Copy, Debug, PartialEq, Eq)]
+enum Part {
+    Plain(usize),
+    Escaped(usize),
+    Spoilt,
 }
 
-// Between two frames `bytes` still holds the last one. What is yes or no is a byte, 0 for no, so that any memory is a reader.
+// Between two frames `bytes` still holds the last one. Any memory is a reader, as C needs it: what is yes or no is a byte, 0 for no, and
+// a length above MOST_BYTES says that it can be no frame any more.
 #[repr(C)]
-#[derive(Clone, Copy)]
+#[derive(Clone, Copy, Debug, PartialEq, Eq)]
 pub struct Reader {
     pub bytes: [u8; MOST_BYTES],
     length: u8,
@@ -36,189 +34,168 @@ pub struct Reader {
     last: u8,
 }
 
-// How many bytes of a piece were read, and whether the last of them completed a frame. Its data are then `size` bytes of the reader's,
-// from DATA on.
-#[derive(Clone, Copy)]
-pub struct Fed {
-    pub reader: Reader,
-    pub read: usize,
-    pub complete: bool,
+// A frame that was handed out: its number, its record number, how many bytes of data it has, and whether something is missing before it.
+#[derive(Clone, Copy, Debug, PartialEq, Eq)]
+pub struct Frame {
     pub number: u8,
     pub kind: u8,
     pub size: usize,
     pub gap: bool,
+    ghost small: { size ≤ most_data },
 }
 
-// A reader that has read nothing.
-pub fn new_reader() -> Reader
-    ensures { state_of result ≡ fresh }
-{
-    Reader {
-        bytes: [0u8; MOST_BYTES],
-        length: 0,
-        escaped: 0,
-        any: 0,
-        last: 0,
-    }
+// How many bytes of a piece were read, and the frame that the last of them completed, if any.
+#[derive(Clone, Copy, Debug, PartialEq, Eq)]
+pub struct Fed {
+    pub read: usize,
+    pub frame: Option<Frame>,
 }
 
-// One unescaped byte more, behind the first n.
-fn push(bytes: &mut [u8; MOST_BYTES], n: u8, b: u8) -> Part
-    requires { length bytes.old ≡ most_bytes }
-    ensures { Stands bytes.new result.length result.escaped (pushed (take n bytes.old) b) }
-{
-    let at = n as usize;
-    if MOST_BYTES <= at {
-        return Part {
-            length: SPOILT,
-            escaped: false,
-        };
-    }
-    bytes[at] = b;
-    Part {
-        length: n + 1,
-        escaped: false,
-    }
-}
+#[tactic(auto, unfolding(crate::proofs::Opened::reader))]
+impl Reader {
+    ghost use Rattle.frame.specs.Inside.{seen, size_in};
+    ghost use Rattle.frame.specs.View.{Tells, Within, frames_of, frames_told, state_of};
 
-// A byte that is not FLAG.
-fn take_in(bytes: &mut [u8; MOST_BYTES], n: u8, escaped: bool, b: u8) -> Part
-    requires { length bytes.old ≡ most_bytes }
-    ensures { Stands bytes.new result.length result.escaped (taken (part_of n escaped bytes.old) b) }
-{
-    if MOST_BYTES < n as usize {
-        return Part { length: n, escaped };
-    }
-    if escaped {
-        if b == FLAG_SENT {
-            return push(bytes, n, FLAG);
-        }
-        if b == ESCAPE_SENT {
-            return push(bytes, n, ESCAPE);
-        }
-        return Part {
-            length: SPOILT,
-            escaped: false,
-        };
-    }
-    if b == ESCAPE {
-        return Part {
-            length: n,
-            escaped: true,
-        };
-    }
-    push(bytes, n, b)
-}
-
-// Any byte: with FLAG the next frame starts.
-fn next_part(bytes: &mut [u8; MOST_BYTES], n: u8, escaped: bool, b: u8) -> Part
-    requires { length bytes.old ≡ most_bytes }
-    ensures { Stands bytes.new result.length result.escaped (next_part (part_of n escaped bytes.old) b) }
-{
-    if b == FLAG {
-        return Part {
+    // A reader that has read nothing.
+    pub fn new() -> Reader
+        ensures { state_of result ≡ fresh }
+    {
+        Reader {
+            bytes: [0u8; MOST_BYTES],
             length: 0,
-            escaped: false,
-        };
-    }
-    take_in(bytes, n, escaped, b)
-}
-
-// Whether a byte completes a frame.
-fn completes(bytes: &[u8; MOST_BYTES], n: u8, escaped: bool, b: u8) -> bool
-    requires { length bytes.now ≡ most_bytes }
-    ensures { result ≡ (b == 0x7E && is_whole (part_of n escaped bytes.now)) }
-{
-    if b != FLAG {
-        return false;
-    }
-    let size = n as usize;
-    if MOST_BYTES < size {
-        return false;
-    }
-    if escaped {
-        return false;
-    }
-    if size < LEAST_BYTES {
-        return false;
-    }
-    let check = 255 - sum_of(bytes, size - 1);
-    bytes[size - 1] == check
-}
-
-fn gap_at(any: bool, last: u8, number: u8) -> bool
-    ensures { result ≡ gap_at (last_of any last) number }
-{
-    if any {
-        number != next_number(last)
-    } else {
-        false
-    }
-}
-
-// The first n bytes are a frame: hands it out.
-fn hand_out(bytes: [u8; MOST_BYTES], n: u8, any: bool, last: u8, read: usize) -> Fed
-    requires { (n ≤ most_bytes) × (fits (take n bytes) ≡ true) }
-    ensures { Finishes (take n bytes) (last_of any last) (frames_of result) (state_of result.reader) × (result.read ≡ read) × (result.size ≤ most_data) × (result ≡ fed_of result.reader result.read (frames_of result)) }
-{
-    let number = bytes[0];
-    let reader = Reader {
-        bytes,
-        length: 0,
-        escaped: 0,
-        any: 1,
-        last: number,
-    };
-    Fed {
-        reader,
-        read,
-        complete: true,
-        number,
-        kind: bytes[1],
-        size: n as usize - LEAST_BYTES,
-        gap: gap_at(any, last, number),
-    }
-}
-
-// Nothing is complete yet.
-fn hold_on(reader: Reader, read: usize) -> Fed
-    ensures { (frames_of result ≡ []) × (result.reader ≡ reader) × (result.read ≡ read) × (result.size ≤ most_data) × (result ≡ fed_of result.reader result.read (frames_of result)) }
-{
-    Fed {
-        reader,
-        read,
-        complete: false,
-        number: 0,
-        kind: 0,
-        size: 0,
-        gap: false,
-    }
-}
-
-// Reads a piece up to and with the first byte that completes a frame, else all of it.
-pub fn feed(r: Reader, piece: &[u8]) -> Fed
-    ensures feeds { Feeds (state_of r) piece.now result.read (frames_of result) (state_of result.reader) }
-    ensures within { Within piece.now result }
-{
-    let mut bytes = r.bytes;
-    let mut n = r.length;
-    let mut escaped = r.escaped != 0;
-    let mut i = 0;
-    while i < piece.len() {
-        if completes(&bytes, n, escaped, piece[i]) {
-            return hand_out(bytes, n, r.any != 0, r.last, i + 1);
+            escaped: 0,
+            any: 0,
+            last: 0,
         }
-        let part = next_part(&mut bytes, n, escaped, piece[i]);
-        n = part.length;
-        escaped = part.escaped;
-        i += 1;
     }
-    let reader = Reader {
-        bytes,
-        length: n,
-        escaped: one(escaped),
-        any: r.any,
-        last: r.last,
-    };
-    hold_on(reader, i)
+
+    // The data of the frame that was handed out last.
+    pub fn data(&self, frame: Frame) -> &[u8]
+        ensures bytes { result.now ≡ take frame.size (drop 2 self.now.bytes) }
+        ensures size { length result.now ≡ frame.size }
+    {
+        &self.bytes[DATA..DATA + frame.size]
+    }
+
+    fn part(&self) -> Part
+        ensures part { seen result self.now.bytes ≡ (state_of self.now).part }
+        ensures most { size_in result ≤ most_bytes }
+    {
+        let length = usize::from(self.length);
+        if MOST_BYTES < length {
+            Part::Spoilt
+        } else if self.escaped != 0 {
+            Part::Escaped(length)
+        } else {
+            Part::Plain(length)
+        }
+    }
+
+    fn is_gap_before(&self, number: u8) -> bool
+        ensures { result ≡ gap_at (state_of self.now).last number }
+    {
+        self.any != 0 && number != next_number(self.last)
+    }
+
+    // The frame that FLAG completes, if any.
+    fn whole_frame(&self) -> Option<Frame>
+        ensures handed { frames_told self.now result ≡ ended (state_of self.now).part (state_of self.now).last }
+        ensures told { Tells result (frames_told self.now result) }
+    {
+        let Part::Plain(length) = self.part() else {
+            return None;
+        };
+        if length < LEAST_BYTES {
+            return None;
+        }
+        let check = 255 - sum_of(&self.bytes[..length - 1]);
+        if self.bytes[length - 1] != check {
+            return None;
+        }
+        let number = self.bytes[0];
+        Some(Frame {
+            number,
+            kind: self.bytes[1],
+            size: length - LEAST_BYTES,
+            gap: self.is_gap_before(number),
+        })
+    }
+
+    // FLAG: the frame that it completes, if any. The next frame starts.
+    fn end(&mut self) -> Option<Frame>
+        ensures handed { frames_told self.new result ≡ given (state_of self.old) FLAG }
+        ensures then { state_of self.new ≡ after (state_of self.old) FLAG }
+        ensures told { Tells result (frames_told self.new result) }
+    {
+        let frame = self.whole_frame();
+        if let Some(whole) = frame {
+            self.any = 1;
+            self.last = whole.number;
+        }
+        self.length = 0;
+        self.escaped = 0;
+        frame
+    }
+
+    // One unescaped byte more, behind the first n.
+    fn push(&mut self, n: usize, byte: u8)
+        requires { n ≤ most_bytes }
+        ensures { state_of self.new ≡ state (pushed (take n self.old.bytes) byte) (state_of self.old).last }
+    {
+        if n < MOST_BYTES {
+            self.bytes[n] = byte;
+            self.length = n as u8 + 1;
+            self.escaped = 0;
+        } else {
+            self.length = SPOILT;
+        }
+    }
+
+    // A byte that is not FLAG.
+    fn take_in(&mut self, byte: u8)
+        ensures { state_of self.new ≡ state (taken (state_of self.old).part byte) (state_of self.old).last }
+    {
+        match self.part() {
+            Part::Spoilt => {}
+            Part::Escaped(n) => match byte {
+                FLAG_SENT => self.push(n, FLAG),
+                ESCAPE_SENT => self.push(n, ESCAPE),
+                _ => self.length = SPOILT,
+            },
+            Part::Plain(n) => match byte {
+                ESCAPE => self.escaped = 1,
+                _ => self.push(n, byte),
+            },
+        }
+    }
+
+    // Any byte: the frame that it completes, if any.
+    fn step(&mut self, byte: u8) -> Option<Frame>
+        ensures handed { frames_told self.new result ≡ given (state_of self.old) byte }
+        ensures then { state_of self.new ≡ after (state_of self.old) byte }
+        ensures told { Tells result (frames_told self.new result) }
+    {
+        if byte == FLAG {
+            return self.end();
+        }
+        self.take_in(byte);
+        None
+    }
+
+    // Reads a piece up to and with the first byte that completes a frame, else all of it.
+    pub fn feed(&mut self, piece: &[u8]) -> Fed
+        ensures feeds { Feeds (state_of self.old) piece.now result.read (frames_of self.new result) (state_of self.new) }
+        ensures within { Within piece.now self.new result }
+    {
+        for (i, byte) in piece.iter().enumerate() {
+            let frame = self.step(*byte);
+            if frame.is_some() {
+                return Fed { read: i + 1, frame };
+            }
+        }
+        Fed {
+            read: piece.len(),
+            frame: None,
+        }
+    }
 }

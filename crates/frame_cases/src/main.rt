@@ -7,58 +7,62 @@
 #![tactic(auto)]
 
 mod reading;
-mod report;
 mod writing;
 
-use input::{Letter, low_byte_first, read_exactly};
+use input::{read_array, read_vec};
+use std::alloc::Global;
 use std::io;
 use std::io::Read;
 
-const STREAM_ROOM: usize = 1500;
+const MOST_STREAM: usize = 1500;
 
-const DATA_ROOM: usize = 400;
+const MOST_DATA: usize = 400;
+
+// So many bytes, none where the input ends before or they are more than a case has.
+fn read_at_most(
+    alloc: Global,
+    input: &mut impl Read,
+    length: [u8; 2],
+    most: usize,
+) -> io::Result<Option<Vec<u8>>> {
+    let n = usize::from(u16::from_le_bytes(length));
+    if most < n {
+        return Ok(None);
+    }
+    read_vec(alloc, input, n)
+}
 
 // Runs a writer's case, and answers whether it was there.
-fn run_writer(rt: &impl Print, input: &mut impl Read) -> io::Result<bool> {
-    let mut head = [0u8; 6];
-    let mut data = [0u8; DATA_ROOM];
-    if !read_exactly(input, &mut head, 6)? {
+fn run_writer(rt: &(impl Print + AllocGlobal), input: &mut impl Read) -> io::Result<bool> {
+    let Some(head) = read_array::<6>(input)? else {
         return Ok(false);
-    }
-    let size = low_byte_first(head[4], head[5]);
-    if !read_exactly(input, &mut data, size)? {
+    };
+    let size = [head[4], head[5]];
+    let Some(data) = read_at_most(rt.alloc(), input, size, MOST_DATA)? else {
         return Ok(false);
-    }
-    let n = data.len().min(size as usize);
-    let room = low_byte_first(head[2], head[3]);
-    writing::run(rt, head[0], head[1], room, &data[..n])?;
+    };
+    let room = u16::from_le_bytes([head[2], head[3]]);
+    writing::run(rt, head[0], head[1], usize::from(room), &data)?;
     Ok(true)
 }
 
 // Runs a reader's case, and answers whether it was there.
-fn run_reader(rt: &impl Print, input: &mut impl Read) -> io::Result<bool> {
-    let mut head = [0u8; 2];
-    let mut stream = [0u8; STREAM_ROOM];
-    if !read_exactly(input, &mut head, 2)? {
+fn run_reader(rt: &(impl Print + AllocGlobal), input: &mut impl Read) -> io::Result<bool> {
+    let Some(length) = read_array(input)? else {
         return Ok(false);
-    }
-    let length = low_byte_first(head[0], head[1]);
-    if !read_exactly(input, &mut stream, length)? {
+    };
+    let Some(stream) = read_at_most(rt.alloc(), input, length, MOST_STREAM)? else {
         return Ok(false);
-    }
-    let n = stream.len().min(length as usize);
-    reading::run(rt, &stream[..n])?;
+    };
+    reading::run(rt, &stream)?;
     Ok(true)
 }
 
 // Runs the next case, and answers whether it was there.
-fn run_case(rt: &impl Print, input: &mut impl Read) -> io::Result<bool> {
-    let Letter::Byte(letter) = input::read_letter(input)? else {
-        return Ok(false);
-    };
-    match letter {
-        b'w' => run_writer(rt, input),
-        b'r' => run_reader(rt, input),
+fn run_case(rt: &(impl Print + AllocGlobal), input: &mut impl Read) -> io::Result<bool> {
+    match input::read_byte(input)? {
+        Some(b'w') => run_writer(rt, input),
+        Some(b'r') => run_reader(rt, input),
         _ => Ok(false),
     }
 }

@@ -3,13 +3,13 @@ use Rattle.std.specs.Prelude.{cond, List, [], ◌∷◌, ◌≡◌, ℕ, ◌+◌
 use Rattle.ground.specs.Bytes.{padded}
 use Rattle.frame.specs.Reading.{Frame, Feeds, State, given_all}
 use Rattle.frame.specs.Wire.{most_data}
-use Rattle.frame.specs.Writing.{area_after, refused, written}
+use Rattle.frame.specs.Writing.{area_after, length_of, next_of, refused, written}
 
 -- After a frame was written to an area, or refused: how many bytes it has, 0 exactly where it is refused; the number of the next; the area.
 pub record Writes (out : List ℕ) (number kind : ℕ) (bytes : List ℕ) (size next : ℕ) (area : List ℕ) : Type 0 where
-  pub size_is : size ≡ (written (length out) number kind bytes).length
+  pub size_is : size ≡ length_of (written (length out) number kind bytes)
   pub refusal : eqb size 0 ≡ refused (length out) number kind bytes
-  pub next-is : next ≡ (written (length out) number kind bytes).next
+  pub next-is : next ≡ next_of number (written (length out) number kind bytes)
   pub area_is : area ≡ area_after out number kind bytes
 
 -- Whether a frame was completed, its number, its record number, whether there is a gap before it, how many bytes its data have, and

@@ -15,28 +15,11 @@ ghost use Rattle.state.specs.View.{areas, Good, state_of, told};
 use kernel::Kernel;
 use numbers::REPLY_BYTES;
 
-// A fresh kernel.
-fn made() -> Kernel
-    ensures { (state_of result ≡ fresh_state) × Good result }
-{
-    kernel::fresh()
-}
-
-// Writes where the part that READ hands back begins, and how long it is.
-fn find_part(k: Kernel, record: &[u8], payloads: &[u8], place: &mut usize, length: &mut usize)
-    requires { Good k }
-    ensures { Found (state_of k) «record».now payloads.now place.new length.new }
-{
-    let part = kernel::part_at(k, record, payloads);
-    *place = part.place;
-    *length = part.length;
-}
-
 // Makes a fresh kernel.
 pub fn trunhoac_fresh(k: &mut Kernel)
     ensures { (state_of k.new ≡ fresh_state) × Good k.new }
 {
-    *k = made();
+    *k = kernel::fresh();
 }
 
 // Any record, with the chart that LOAD loads, and the areas.
@@ -56,7 +39,7 @@ pub fn trunhoac_command(
         ≡ answer_to (state_of k.old) «record».now chart.now
         (areas payloads.old tables.old guarded.old log.old)) }
 {
-    *k = kernel::answer_to(*k, record, chart, payloads, tables, guarded, log, reply);
+    kernel::answer_to(k, record, chart, payloads, tables, guarded, log, reply);
 }
 
 // Where the part that READ hands back begins in the payload area, and how long it is; 0 and 0 when refused, and for any other record.
@@ -70,7 +53,9 @@ pub fn trunhoac_read(
     requires { Good k.now }
     ensures { Found (state_of k.now) «record».now payloads.now place.new length.new }
 {
-    find_part(*k, record, payloads, place, length);
+    let part = kernel::part_at(k, record, payloads);
+    *place = part.place;
+    *length = part.length;
 }
 
 // The chart calls under their own names, so that one library has all.

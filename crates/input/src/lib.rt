@@ -1,8 +1,10 @@
 // Bytes of an input, for the programs that are run on cases.
 #![tactic(auto)]
 
+ghost use Rattle.std.specs.Prelude.{◌≡◌, IfOk, IfSome, vec_len};
 ghost use Rattle.std.specs.Io.{ReadsAtMost};
 
+use std::alloc::Global;
 use std::io;
 use std::io::Read;
 
@@ -21,28 +23,44 @@ pub fn read_full(input: &mut impl Read, buffer: &mut [u8]) -> io::Result<usize>
     Ok(done)
 }
 
-// Reads the next n bytes into the front of the buffer. It answers false if the buffer or the input is too short.
-pub fn read_exactly(input: &mut impl Read, buffer: &mut [u8], n: u16) -> io::Result<bool> {
-    let room = buffer.len().min(n as usize);
-    Ok(read_full(input, &mut buffer[..room])? == n as usize)
+// The next bytes, as many as the array has, or none where the input ends before.
+pub fn read_array<const N: usize>(input: &mut impl Read) -> io::Result<Option<[u8; N]>> {
+    let mut bytes = [0u8; N];
+    let n = read_full(input, &mut bytes)?;
+    Ok(if n == N { Some(bytes) } else { None })
 }
 
-pub fn low_byte_first(low: u8, high: u8) -> u16 {
-    low as u16 + 256 * high as u16
+// The next n bytes, or none where the input ends before.
+pub fn read_vec(alloc: Global, input: &mut impl Read, n: usize) -> io::Result<Option<Vec<u8>>>
+    ensures { IfOk result (λ read. IfSome read (λ bytes. vec_len bytes ≡ n)) }
+{
+    let mut bytes = vec![in alloc; 0u8; n]?;
+    let read = read_full(input, &mut bytes)?;
+    Ok(if read == n { Some(bytes) } else { None })
 }
 
-// A byte of a text, or its end.
-#[derive(Clone, Copy)]
-pub enum Letter {
-    Byte(u8),
-    End,
+// The next byte, or none at the input's end.
+pub fn read_byte(input: &mut impl Read) -> io::Result<Option<u8>> {
+    let mut byte = [0u8];
+    let n = read_full(input, &mut byte)?;
+    Ok(if n == 0 { None } else { Some(byte[0]) })
 }
 
-pub fn read_letter(input: &mut impl Read) -> io::Result<Letter> {
-    let mut letter = [0u8; 1];
-    if read_full(input, &mut letter)? == 1 {
-        Ok(Letter::Byte(letter[0]))
-    } else {
-        Ok(Letter::End)
+#[cfg(test)]
+mod tests {
+    use super::*;
+    use std::test::Fail;
+
+    #[test]
+    fn reads_pieces_and_none_behind_the_end(rt: HostRuntime) -> Result<(), Fail> {
+        let mut input = b"abcdef".as_slice();
+        assert_eq!(rt; read_byte(&mut input)?, Some(b'a'));
+        assert_eq!(rt; read_array::<2>(&mut input)?, Some([b'b', b'c']));
+        let piece = read_vec(rt.alloc(), &mut input, 2)?;
+        assert!(rt; piece.is_some_and(|bytes| bytes.as_slice() == b"de".as_slice()));
+        assert_eq!(rt; read_array::<2>(&mut input)?, None);
+        assert_eq!(rt; read_byte(&mut input)?, None);
+        assert!(rt; read_vec(rt.alloc(), &mut input, 1)?.is_none());
+        Ok(())
     }
 }

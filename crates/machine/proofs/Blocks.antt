@@ -7,6 +7,7 @@ use native.Mathlib.Omega.{arith}
 use borrow.Author.Tests.{ltb-true, leb-true, leb-false, le-ltb}
 use lib.Dec.{eqb, ltb, leb}
 use lib.ListN.{length, get_or, set}
+use Rattle.std.proofs.Common.{Option, Some, None}
 use Rattle.ground.specs.Bools.{cond_pick}
 use Rattle.mail.specs.Box.{box_at, occurrences, one, push_back}
 use Rattle.mail.specs.Entry.{entry_of, hand_of}
@@ -16,8 +17,6 @@ use Rattle.mail.specs.declared.Hand.TheVariants.{Block}
 use Rattle.pool.specs.Cell.{Cell, handed_out, more, fewer, dropped, most_references}
 use Rattle.pool.specs.Laws.{found-lowest, pool-end}
 use Rattle.pool.specs.Row.{at, blocks, changed, found, pool_for}
-use Rattle.pool.specs.declared.Found.{Found}
-use Rattle.pool.specs.declared.Found.TheVariants.{At, Nothing}
 use Rattle.pool.specs.declared.Span.{Span}
 use Rattle.machine.proofs.Counts.{
   MakesNoneLive,
@@ -177,7 +176,7 @@ pool-fits n b h =
     at_least = cond_pick (λ x. 16 ≤ x) (ltb b 32) 16 _ (λ e. omega arith) (λ e. omega (arith, at_least_32))
 
 module _ (s : State) (g n : ℕ) (i : Inv s) (sig : IsSignal g) (h : n ≤ most_bytes) where
-  pub new_event_keeps : (b : ℕ) → found s.cells n ≡ At b → Inv (new_event s b g n)
+  pub new_event_keeps : (b : ℕ) → found s.cells n ≡ Some b → Inv (new_event s b g n)
   unfolding new_event references
   new_event_keeps b e =
       let w = found-lowest s.cells (pool_for n) b e in
@@ -194,10 +193,10 @@ module _ (s : State) (g n : ℕ) (i : Inv s) (sig : IsSignal g) (h : n ≤ most_
       (counted_same s.cells (references s) _ b i.store.cells-length l i.counted handed_out (count_handed (at s.cells b) ∙ sym none)
       (λ k m. omega (arith, hold_none s.events.holds b (omega arith) k unheld)))
 
-  pub new_in_keeps : (f : Found) (payload : List ℕ) (z : Areas) → found s.cells n ≡ f → Inv (new_in f g n payload s z).state
+  pub new_in_keeps : (f : Option ℕ) (payload : List ℕ) (z : Areas) → found s.cells n ≡ f → Inv (new_in f g n payload s z).state
   unfolding new_in
-  new_in_keeps (At b) payload z e = new_event_keeps b e
-  new_in_keeps Nothing payload z e = i
+  new_in_keeps (Some b) payload z e = new_event_keeps b e
+  new_in_keeps None payload z e = i
 
 -- READ: the payload of a live block lies in the payload area.
 pub place_end : (b : ℕ) → b < blocks → place_of b + capacity b ≤ payload_bytes

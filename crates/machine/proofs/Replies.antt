@@ -7,14 +7,13 @@ use native.Mathlib.Omega.{arith}
 use borrow.Author.Tests.{leb-true, not-true}
 use lib.Dec.{eqb, leb}
 use lib.ListN.{length, get_or, replicate, length-append}
+use Rattle.std.proofs.Common.{Option, Some, None}
 use Rattle.ground.specs.Bytes.{padded}
 use Rattle.ground.specs.Padding.{length-padded}
 use Rattle.ground.specs.Bools.{and_left, and_right, cond_pick}
 use Rattle.chart.specs.Chart.{class_of}
 use Rattle.chart.specs.Numbers.{most_actions}
 use Rattle.chart.specs.Step
-use Rattle.pool.specs.declared.Found.{Found}
-use Rattle.pool.specs.declared.Found.TheVariants.{At, Nothing}
 use Rattle.machine.proofs.Dispatch.{OfEach, answer_all}
 use Rattle.machine.proofs.Tests.{unless_pick, fault_pick}
 use Rattle.machine.specs.Aside.{defer_tests, defer, recall_tests, recall_done, recall, flush_tests, flush}
@@ -139,10 +138,10 @@ module _ (r d : List ℕ) (s : State) (z : Areas) where
       (λ c e. record { long = reply-length (bad_chart (suc c)); small = omega arith; refusal = λ h. record { state = refl; areas = refl; reply = rw e refl } })
       (λ e. k)
 
-  new_in_replies : (f : Found) (g n : ℕ) (payload : List ℕ) → Replies r d s z (new_in f g n payload s z)
+  new_in_replies : (f : Option ℕ) (g n : ℕ) (payload : List ℕ) → Replies r d s z (new_in f g n payload s z)
   unfolding new_in
-  new_in_replies (At b) g n payload = makes _ _ _ _ _
-  new_in_replies Nothing g n payload = says _ _ _ _
+  new_in_replies (Some b) g n payload = makes _ _ _ _ _
+  new_in_replies None g n payload = says _ _ _ _
 
   publish_done_replies : (n b : ℕ) → Replies r d s z (publish_done n b s z)
   unfolding publish_done

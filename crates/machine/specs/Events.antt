@@ -1,6 +1,6 @@
 -- Document 01, "Commands": events and their blocks. NEW, POST, POSTFRONT, PUBLISH, SUBSCRIBE, UNSUBSCRIBE, HOLD, RELEASE, DROP, READ.
 -- Of each command its tests, in ascending number, and what it does when none of them holds. `spoilt`: an unused byte is not 0.
-use Rattle.std.specs.Prelude.{Bool, true, false, cond, not, ◌||◌, List, [], ◌∷◌, ℕ, zero, suc, ◌+◌, ◌-◌, eqb, leb, length, set, take, drop}
+use Rattle.std.specs.Prelude.{Bool, true, false, cond, not, ◌||◌, List, [], ◌∷◌, Option, Some, None, ℕ, zero, suc, ◌+◌, ◌-◌, eqb, leb, length, set, take, drop}
 use Rattle.ground.specs.Bytes.{padded}
 use Rattle.mail.specs.Box.{one, push_back, push_front}
 use Rattle.mail.specs.Entry.{entry_of}
@@ -8,8 +8,6 @@ use Rattle.mail.specs.declared.Hand.TheVariants.{Block}
 use Rattle.pool.specs.Cell.{is_new, at_last, handed_out, more, fewer, dropped}
 use Rattle.pool.specs.Mark.{mark_of, marks_after}
 use Rattle.pool.specs.Row.{at, changed, found, generation_at, pool_for, stale_at}
-use Rattle.pool.specs.declared.Found.{Found}
-use Rattle.pool.specs.declared.Found.TheVariants.{At, Nothing}
 use Rattle.machine.specs.Numbers.{objects, payload_bytes, most_holds, no_object, no_signal, no_block, no_size, no_margin, capacity, place_of}
 use Rattle.machine.specs.State.{State, signal_in, size_in, holds_on, box_of, started, room, subscribed, want_place, with_cells, with_marks, with_events, with_boxes, with_wants, with_holds}
 use Rattle.machine.specs.Reply.{FORM, AREA, RANGE, STALE, ABSENT, FULL, DRY, HOLDS, INUSE, done, made, shown, Areas, Answer, answer, lowest, unless, with_payloads, over}
@@ -38,9 +36,9 @@ is_fresh s b = is_new (at s.cells b)
 
 -- 3 NEW signal, size 0-64, payload: the lowest free block of the first pool whose blocks are large enough; the rest of the block is 0.
 -- The count byte is that pool's mark, this block counted as taken (document 02, request 5).
-unfoldable pub none_found : Found → Bool
-none_found (At b) = false
-none_found Nothing = true
+unfoldable pub none_found : Option ℕ → Bool
+none_found (Some b) = false
+none_found None = true
 
 unfoldable pub new_tests : Bool → ℕ → ℕ → State → List ℕ → List (ℕ × Bool)
 new_tests spoilt g n s payloads =
@@ -54,12 +52,12 @@ new_tests spoilt g n s payloads =
 unfoldable pub new_event : State → ℕ → ℕ → ℕ → State
 new_event s b g n =
     with_cells (changed handed_out s.cells b)
-    (with_marks (marks_after s.cells s.marks (pool_for n) (At b))
+    (with_marks (marks_after s.cells s.marks (pool_for n) (Some b))
     (with_events (record { signals = set s.events.signals b g; sizes = set s.events.sizes b n; holds = set s.events.holds b 0 }) s))
 
-unfoldable pub new_in : Found → ℕ → ℕ → List ℕ → State → Areas → Answer
-new_in Nothing g n payload s z = answer s (done 0 0) z
-new_in (At b) g n payload s z =
+unfoldable pub new_in : Option ℕ → ℕ → ℕ → List ℕ → State → Areas → Answer
+new_in None g n payload s z = answer s (done 0 0) z
+new_in (Some b) g n payload s z =
     answer (new_event s b g n) (made b (generation_at s.cells b) (mark_of (new_event s b g n).marks (pool_for n)))
     (with_payloads (over z.payloads (place_of b) (padded (capacity b) (take n payload))) z)
 

@@ -1,14 +1,13 @@
-// The mailboxes: for each object, of any number of them, a ring of 16 places, all in one array. Objects are counted from 0 here. The side
-// queues are such rings too. What stands above relies on the promises alone, which speak of `boxes places heads counts`, the lists of
-// entries that the three arrays hold.
-#![tactic(auto)]
+// A mailbox is a ring of 16 places, and a side queue is such a ring too. What stands above relies on the promises alone, which speak of
+// `entries`, the list of what a ring holds, front first, and of `boxes`, these lists of several rings.
+#![tactic(auto, using(crate::proofs::Rings::ring_laws), unfolding(crate::specs::Box::rest))]
 
-ghost use Rattle.std.specs.Prelude.{List, ◌≡◌, ℕ, ◌+◌, ◌*◌, ◌-◌, ◌^◌, ◌<◌, ◌≤◌, get_or, length, set};
-ghost use Rattle.mail.specs.Box.{box_at, emptied, front, highest, push_back, push_front, room, took_first, took_front};
+ghost use Rattle.std.specs.Prelude.{[], ◌≡◌, ◌<◌, ◌≤◌, drop, eqb, get_or, length};
+ghost use Rattle.mail.specs.Box as Box;
+ghost use Rattle.mail.specs.Box.{ahead, bare, behind, rest, room};
 ghost use Rattle.mail.specs.Entry.{entry_of, hand_of};
-ghost use Rattle.mail.specs.Inside.{place_of, boxes, Mail, Holds};
+ghost use Rattle.mail.specs.Inside.{boxes, entries, place_of};
 
-use ground::{byte_at, wide};
 use numbers::{PLACES, SIGNAL_PLACES};
 
 // One place back in a ring is so many on.
@@ -22,136 +21,133 @@ const SIGNALS: u16 = SIGNAL_PLACES as u16;
 const BYTES: u16 = 256;
 
 // What an entry stands for: a block, or a timer with its signal.
-#[derive(Clone, Copy)]
+#[derive(Clone, Copy, Debug, PartialEq, Eq)]
 pub enum Hand {
     Nothing,
     Block(u8),
     Timer(u8, u8),
 }
 
-// The place of entry i, counted from the front, in the mailbox of object q with its head at h. Every place of that ring is an index.
-fn place(q: usize, h: usize, i: usize) -> usize
-    requires { (room * q + room < 2 ^ 64) × (h < 256) × (i < 256) }
-    ensures { result ≡ place_of q h i }
-{
-    PLACES * q + (h + i) % PLACES
+// A queue of up to 16 entries: `count` of them, from place `head` on, round. Any bytes are a ring: places are taken modulo 16.
+// No `VecDeque`, since the kernel has no heap; no `CircularBuffer`, which has two words beside its places: the kernel is 2,064 bytes.
+#[repr(C)]
+#[derive(Clone, Copy, Debug, PartialEq, Eq)]
+pub struct Ring {
+    places: [u16; PLACES],
+    head: u8,
+    count: u8,
 }
 
-pub fn push_back(places: &mut [u16], heads: &[u8], counts: &mut [u8], q: usize, e: u16)
-    requires mail { Mail places.old heads.now counts.old }
-    requires q_in_bounds { (q < length counts.old) × (get_or counts.old q 0 < room) }
-    ensures holds { Holds places.new heads.now counts.new
-        (push_back (boxes places.old heads.now counts.old) q e) }
-    ensures counts_after { counts.new ≡ set counts.old q (get_or counts.old q 0 + 1) }
-{
-    let n = wide(counts[q]);
-    let h = wide(heads[q]);
-    places[place(q, h, n)] = e;
-    counts[q] = (n + 1) as u8;
+impl Ring {
+    pub const fn new() -> Ring
+        ensures { entries result ≡ [] }
+    {
+        Ring {
+            places: [0; PLACES],
+            head: 0,
+            count: 0,
+        }
+    }
+
+    // The place of entry i, counted from the front.
+    fn place(&self, i: usize) -> usize
+        requires { i < 256 }
+        ensures { result ≡ place_of self.now.head i }
+    {
+        (usize::from(self.head) + i) % PLACES
+    }
+
+    pub fn len(&self) -> usize
+        ensures { result ≡ length (entries self.now) }
+    {
+        usize::from(self.count)
+    }
+
+    pub fn is_empty(&self) -> bool
+        ensures { result ≡ eqb (length (entries self.now)) 0 }
+    {
+        self.count == 0
+    }
+
+    pub fn push_back(&mut self, e: u16)
+        requires { length (entries self.old) < room }
+        ensures { entries self.new ≡ behind e (entries self.old) }
+    {
+        let p = self.place(self.len());
+        self.places[p] = e;
+        self.count += 1;
+    }
+
+    pub fn push_front(&mut self, e: u16)
+        requires { length (entries self.old) < room }
+        ensures { entries self.new ≡ ahead e (entries self.old) }
+    {
+        let p = self.place(ONE_BACK);
+        self.places[p] = e;
+        self.head = p as u8;
+        self.count += 1;
+    }
+
+    // The front entry, which leaves.
+    pub fn take_front(&mut self) -> u16
+        requires { 0 < length (entries self.old) }
+        ensures left { entries self.new ≡ rest (entries self.old) }
+        ensures value { result ≡ get_or (entries self.old) 0 0 }
+    {
+        let e = self.front();
+        self.leave(1);
+        e
+    }
+
+    // The front entry, which stays.
+    pub fn front(&self) -> u16
+        requires { 0 < length (entries self.now) }
+        ensures { result ≡ get_or (entries self.now) 0 0 }
+    {
+        self.entry(0)
+    }
+
+    // Entry i, counted from the front.
+    pub fn entry(&self, i: usize) -> u16
+        requires { i < length (entries self.now) }
+        ensures { result ≡ get_or (entries self.now) i 0 }
+    {
+        self.places[self.place(i)]
+    }
+
+    // Every entry leaves.
+    pub fn clear(&mut self)
+        ensures { entries self.new ≡ bare (entries self.old) }
+    {
+        self.count = 0;
+    }
+
+    // The first n entries leave.
+    pub fn leave(&mut self, n: usize)
+        requires { n ≤ length (entries self.old) }
+        ensures { entries self.new ≡ drop n (entries self.old) }
+    {
+        let left = usize::from(self.count) - n;
+        self.head = self.place(n) as u8;
+        self.count = left as u8;
+    }
 }
 
-pub fn push_front(places: &mut [u16], heads: &mut [u8], counts: &mut [u8], q: usize, e: u16)
-    requires mail { Mail places.old heads.old counts.old }
-    requires q_in_bounds { (q < length counts.old) × (get_or counts.old q 0 < room) }
-    ensures holds { Holds places.new heads.new counts.new
-        (push_front (boxes places.old heads.old counts.old) q e) }
-    ensures counts_after { counts.new ≡ set counts.old q (get_or counts.old q 0 + 1) }
+// The highest object with mail, counted from 1; 0 where nothing is queued.
+pub fn highest(rings: &[Ring]) -> usize
+    ensures is { result ≡ Box.highest (boxes rings.now) }
+    ensures upper_bound { result ≤ length rings.now }
 {
-    let n = counts[q];
-    let h = (wide(heads[q]) + ONE_BACK) % PLACES;
-    places[place(q, h, 0)] = e;
-    heads[q] = h as u8;
-    counts[q] = n + 1;
-}
-
-// The front entry, which leaves.
-pub fn take_front(places: &[u16], heads: &mut [u8], counts: &mut [u8], q: usize) -> u16
-    requires mail { Mail places.now heads.old counts.old }
-    requires q_in_bounds { (q < length counts.old) × (0 < get_or counts.old q 0) }
-    ensures holds { Holds places.now heads.new counts.new
-        (took_front (boxes places.now heads.old counts.old) q) }
-    ensures value { result ≡ front (boxes places.now heads.old counts.old) q }
-    ensures counts_after { counts.new ≡ set counts.old q (get_or counts.old q 0 - 1) }
-{
-    let left = wide(counts[q]) - 1;
-    let h = wide(heads[q]);
-    let e = places[place(q, h, 0)];
-    heads[q] = ((h + 1) % PLACES) as u8;
-    counts[q] = left as u8;
-    e
-}
-
-// The front entry, which stays.
-pub fn front(places: &[u16], heads: &[u8], counts: &[u8], q: usize) -> u16
-    requires mail { Mail places.now heads.now counts.now }
-    requires q_in_bounds { (q < length counts.now) × (0 < get_or counts.now q 0) }
-    ensures { result ≡ front (boxes places.now heads.now counts.now) q }
-{
-    places[place(q, wide(heads[q]), 0)]
-}
-
-// Entry i, counted from the front.
-pub fn entry(places: &[u16], heads: &[u8], counts: &[u8], q: usize, i: usize) -> u16
-    requires mail { Mail places.now heads.now counts.now }
-    requires q_in_bounds { (q < length counts.now) × (i < get_or counts.now q 0) × (i < 256) }
-    ensures { result ≡ get_or (box_at (boxes places.now heads.now counts.now) q) i 0 }
-{
-    places[place(q, wide(heads[q]), i)]
-}
-
-// Every entry leaves. The other arrays have no part in it.
-pub fn empty(counts: &mut [u8], q: usize)
-    requires { q < length counts.old }
-    ensures { (places heads : List ℕ) → Mail places heads counts.old →
-        Holds places heads counts.new (emptied (boxes places heads counts.old) q) }
-{
-    counts[q] = 0;
-}
-
-// The first n entries leave. The places have no part in it.
-pub fn leave(heads: &mut [u8], counts: &mut [u8], q: usize, n: usize)
-    requires { (q < length counts.old) × (length heads.old ≡ length counts.old) × (n ≤ get_or counts.old q 0) }
-    ensures { (places : List ℕ) → Mail places heads.old counts.old →
-        Holds places heads.new counts.new (took_first (boxes places heads.old counts.old) q n) }
-{
-    let left = wide(counts[q]) - n;
-    let h = wide(heads[q]);
-    heads[q] = ((h + n) % PLACES) as u8;
-    counts[q] = left as u8;
-}
-
-// The highest object with mail, counted from 1; 0 where nothing is queued. The counts alone say it.
-pub fn highest(counts: &[u8]) -> usize
-    ensures by_index { (places heads : List ℕ) → result ≡ highest (boxes places heads counts.now) }
-    ensures upper_bound { result ≤ length counts.now }
-{
-    let mut p = counts.len();
-    while 0 < p {
-        if counts[p - 1] != 0 {
+    for p in (1..=rings.len()).rev() {
+        if !rings[p - 1].is_empty() {
             return p;
         }
-        p -= 1;
     }
     0
 }
 
-// What an array has of object p, counted from 1; 0 where there is no such object.
-pub fn of_object(a: &[u8], p: usize) -> usize
-    ensures { (result ≡ get_or a.now (p - 1) 0) × (result < 256) }
-{
-    if p == 0 {
-        return wide(byte_at(a, 0));
-    }
-    wide(byte_at(a, p - 1))
-}
-
-// The free places of a mailbox.
-pub fn room_of(depth: usize, count: usize) -> usize
-    ensures { result ≡ depth - count }
-{
-    if depth < count { 0 } else { depth - count }
-}
-
+// No `From` here: what a u16 stands for is known only where it is an entry.
+#[tactic(auto, unfolding(crate::specs::Entry::hand_of))]
 pub fn hand_of(e: u16) -> Hand
     ensures { result ≡ hand_of e }
 {
@@ -165,12 +161,13 @@ pub fn hand_of(e: u16) -> Hand
     Hand::Timer((n / SIGNALS % BYTES) as u8, (n % SIGNALS) as u8)
 }
 
+#[tactic(auto, unfolding(crate::specs::Entry::entry_of))]
 pub fn entry_of(h: Hand) -> u16
     ensures { result ≡ entry_of h }
 {
     match h {
         Hand::Nothing => 0,
-        Hand::Block(b) => 1 + b as u16,
-        Hand::Timer(t, g) => FIRST_TIMER + SIGNALS * (t as u16) + g as u16,
+        Hand::Block(b) => 1 + u16::from(b),
+        Hand::Timer(t, g) => FIRST_TIMER + SIGNALS * u16::from(t) + u16::from(g),
     }
 }

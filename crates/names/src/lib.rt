@@ -1,63 +1,77 @@
-// The names of the commands, each once: from a name to its number, and back.
+// The names of the commands, each once: from a command to its name, and back.
 #![tactic(auto)]
 
-use numbers::command;
-use std::io;
-use text::{Line, with_bytes};
+ghost use Rattle.std.specs.Prelude.{◌≡◌, IfSome};
+ghost use Rattle.names.specs.Names.{name_of};
 
-// As many as the longest name has, UNSUBSCRIBE, and one more, so that a space ends every name.
-pub const COLUMNS: usize = 12;
+use numbers::command::Command;
+use std::fmt;
 
-const LAST: u8 = command::FLAG;
-
-// Each name stands at its number, with spaces behind it. No command has the number 0.
-const NAMES: [[u8; COLUMNS]; LAST as usize + 1] = [
-    *b"            ",
-    *b"LOAD        ",
-    *b"START       ",
-    *b"NEW         ",
-    *b"POST        ",
-    *b"POSTFRONT   ",
-    *b"PUBLISH     ",
-    *b"SUBSCRIBE   ",
-    *b"UNSUBSCRIBE ",
-    *b"HOLD        ",
-    *b"RELEASE     ",
-    *b"DROP        ",
-    *b"NEXT        ",
-    *b"END         ",
-    *b"ARM         ",
-    *b"DISARM      ",
-    *b"TICK        ",
-    *b"READ        ",
-    *b"DRAIN       ",
-    *b"DEFER       ",
-    *b"RECALL      ",
-    *b"FLUSH       ",
-    *b"FLAG        ",
-];
-
-// The name at a number, or at 0 where that has none.
-fn name_of(number: u8) -> [u8; COLUMNS] {
-    let at = number as usize;
-    if number <= LAST { NAMES[at] } else { NAMES[0] }
+pub fn name_of(command: Command) -> &'static str
+    ensures { result.now ≡ name_of command }
+{
+    match command {
+        Command::Load => "LOAD",
+        Command::Start => "START",
+        Command::New => "NEW",
+        Command::Post => "POST",
+        Command::PostFront => "POSTFRONT",
+        Command::Publish => "PUBLISH",
+        Command::Subscribe => "SUBSCRIBE",
+        Command::Unsubscribe => "UNSUBSCRIBE",
+        Command::Hold => "HOLD",
+        Command::Release => "RELEASE",
+        Command::Drop => "DROP",
+        Command::Next => "NEXT",
+        Command::End => "END",
+        Command::Arm => "ARM",
+        Command::Disarm => "DISARM",
+        Command::Tick => "TICK",
+        Command::Read => "READ",
+        Command::Drain => "DRAIN",
+        Command::Defer => "DEFER",
+        Command::Recall => "RECALL",
+        Command::Flush => "FLUSH",
+        Command::Flag => "FLAG",
+    }
 }
 
-// The number of the command whose name this is, with spaces behind it; 0 if there is no such command.
-pub fn number_of(word: [u8; COLUMNS]) -> u8 {
-    for number in (1..=LAST).rev() {
-        if word == name_of(number) {
-            return number;
+// The command of this name, if there is one.
+pub fn command_named(name: &str) -> Option<Command>
+    ensures { IfSome result (λ command. name_of command ≡ name.now) }
+{
+    (1..=u8::MAX)
+        .filter_map(|number| Command::try_from(number).ok())
+        .find(|command| name_of(*command) == name)
+}
+
+// A command's number as text, in as many columns as the longest name has and one more: its name, or `command 23` where no command has
+// the number.
+#[derive(Clone, Copy, Debug)]
+pub struct Numbered(pub u8);
+
+impl fmt::Display for Numbered {
+    fn fmt<W: fmt::Write>(&self, f: &mut fmt::Formatter<W>) -> fmt::Result {
+        match Command::try_from(self.0) {
+            Ok(command) => write!(f, "{:<12}", name_of(command)),
+            Err(_) => write!(f, "command {:<4}", self.0),
         }
     }
-    0
 }
 
-// The name of a command with spaces behind it, in COLUMNS columns; of a number that no command has, that number.
-pub fn with_name(rt: &impl Print, line: Line, number: u8) -> io::Result<Line> {
-    if 0 < number && number <= LAST {
-        return with_bytes(rt, line, &name_of(number));
+#[cfg(test)]
+mod tests {
+    use super::*;
+
+    #[test]
+    fn every_command_is_found_by_its_name(rt: HostRuntime) {
+        for number in 1..=22 {
+            let command = Command::try_from(number).ok();
+            assert_eq!(rt;
+                command.and_then(|found| command_named(name_of(found))),
+                command
+            );
+        }
+        assert_eq!(rt; command_named("load"), None);
     }
-    let told = text::with_byte_left(rt, with_bytes(rt, line, b"command ")?, number)?;
-    with_bytes(rt, told, b" ")
 }

@@ -1,33 +1,31 @@
-// The number of each answer, the first byte of its reply.
+// The refusals, each with its number, the first byte of its reply. A command that is done answers 0.
+ghost use Rattle.std.specs.Prelude.{◌≡◌};
+ghost use Rattle.numbers.specs.Codes.{code_of};
 
-pub const DONE: u8 = 0;
+#[derive(Clone, Copy, Debug, PartialEq, Eq)]
+pub enum Refusal {
+    Form = 1,
+    Area = 2,
+    Range = 3,
+    Busy = 4,
+    NoStep = 5,
+    Idle = 6,
+    Stale = 7,
+    Absent = 8,
+    Taken = 9,
+    Full = 10,
+    Dry = 11,
+    Holds = 12,
+    InUse = 13,
+    Chart = 14,
+    Table = 15,
+}
 
-pub const FORM: u8 = 1;
-
-pub const AREA: u8 = 2;
-
-pub const RANGE: u8 = 3;
-
-pub const BUSY: u8 = 4;
-
-pub const NOSTEP: u8 = 5;
-
-pub const IDLE: u8 = 6;
-
-pub const STALE: u8 = 7;
-
-pub const ABSENT: u8 = 8;
-
-pub const TAKEN: u8 = 9;
-
-pub const FULL: u8 = 10;
-
-pub const DRY: u8 = 11;
-
-pub const HOLDS: u8 = 12;
-
-pub const INUSE: u8 = 13;
-
-pub const CHART: u8 = 14;
-
-pub const TABLE: u8 = 15;
+impl Refusal {
+    // The first byte of its reply.
+    pub fn code(self) -> u8
+        ensures { result ≡ code_of self }
+    {
+        self as u8
+    }
+}

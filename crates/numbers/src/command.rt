@@ -1,45 +1,66 @@
-// The number of each command, the first byte of its record.
+// The commands, each with its number, the first byte of its record.
+ghost use Rattle.numbers.specs.Codes.{IsCommand};
 
-pub const LOAD: u8 = 1;
+#[derive(Clone, Copy, Debug, PartialEq, Eq)]
+pub enum Command {
+    Load = 1,
+    Start = 2,
+    New = 3,
+    Post = 4,
+    PostFront = 5,
+    Publish = 6,
+    Subscribe = 7,
+    Unsubscribe = 8,
+    Hold = 9,
+    Release = 10,
+    Drop = 11,
+    Next = 12,
+    End = 13,
+    Arm = 14,
+    Disarm = 15,
+    Tick = 16,
+    Read = 17,
+    Drain = 18,
+    Defer = 19,
+    Recall = 20,
+    Flush = 21,
+    Flag = 22,
+}
 
-pub const START: u8 = 2;
+// A number that no command has.
+#[derive(Clone, Copy, Debug, PartialEq, Eq)]
+pub struct UnknownCommand;
 
-pub const NEW: u8 = 3;
+impl TryFrom<u8> for Command {
+    type Error = UnknownCommand;
 
-pub const POST: u8 = 4;
+    ghost try_from_gives = { IsCommand };
 
-pub const POSTFRONT: u8 = 5;
-
-pub const PUBLISH: u8 = 6;
-
-pub const SUBSCRIBE: u8 = 7;
-
-pub const UNSUBSCRIBE: u8 = 8;
-
-pub const HOLD: u8 = 9;
-
-pub const RELEASE: u8 = 10;
-
-pub const DROP: u8 = 11;
-
-pub const NEXT: u8 = 12;
-
-pub const END: u8 = 13;
-
-pub const ARM: u8 = 14;
-
-pub const DISARM: u8 = 15;
-
-pub const TICK: u8 = 16;
-
-pub const READ: u8 = 17;
-
-pub const DRAIN: u8 = 18;
-
-pub const DEFER: u8 = 19;
-
-pub const RECALL: u8 = 20;
-
-pub const FLUSH: u8 = 21;
-
-pub const FLAG: u8 = 22;
+    fn try_from(number: u8) -> Result<Self, UnknownCommand> {
+        Ok(match number {
+            1 => Command::Load,
+            2 => Command::Start,
+            3 => Command::New,
+            4 => Command::Post,
+            5 => Command::PostFront,
+            6 => Command::Publish,
+            7 => Command::Subscribe,
+            8 => Command::Unsubscribe,
+            9 => Command::Hold,
+            10 => Command::Release,
+            11 => Command::Drop,
+            12 => Command::Next,
+            13 => Command::End,
+            14 => Command::Arm,
+            15 => Command::Disarm,
+            16 => Command::Tick,
+            17 => Command::Read,
+            18 => Command::Drain,
+            19 => Command::Defer,
+            20 => Command::Recall,
+            21 => Command::Flush,
+            22 => Command::Flag,
+            _ => return Err(UnknownCommand),
+        })
+    }
+}

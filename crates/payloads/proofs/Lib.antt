@@ -1,2 +1,2 @@
--- Blocks: NEW and READ, their tests and what it says that none of them holds.
+-- Blocks: NEW and READ, what it says that none of their tests holds, and what a take makes of the blocks.
 pub mod Blocks

@@ -4,35 +4,21 @@ use mathlib.Core.List.{List}
 use mathlib.Core.Path.{◌≡◌, refl, sym, ap, ◌∙◌}
 use Prim.Native.Nat.{ℕ, ◌-◌, ◌<◌, ◌≤◌}
 use native.Mathlib.Omega.{arith}
-use lib.ListN.{length, get_or, set}
+use native.Mathlib.Decide.{dec_lt}
+use lib.ListN.{length, get_or, set, get_or-eq_default}
 use lib.Seq.{ext_get_or, get_or-set_same, get_or-set_other, set_out, set-get_or}
 use Rattle.bits.specs.Laws.{first_same, put-here, put_other}
 use Rattle.bits.specs.Members.{put}
 use Rattle.ground.specs.Counting.{count_same}
 use Rattle.ground.specs.Range.{count_from, first_from, tab}
 use Rattle.ground.specs.Tab.{length-tab, get_or-tab, get_or-tab_out, tab-set}
-use Rattle.pool.specs.Cell.{Cell, absent}
-use Rattle.pool.specs.Inside.{cell_at, cell_of, freed_if, row_of, went_back}
+use Rattle.pool.specs.Cell.{Cell, absent, generation_of}
+use Rattle.pool.specs.Inside.{cell_at, cell_of, row_of, went_back}
 use Rattle.pool.specs.Mark.{free_in}
 use Rattle.pool.specs.Promise.{Frees}
 use Rattle.pool.specs.Row.{at, blocks, changed, generation_at, lowest_free}
 use Rattle.pool.specs.declared.Span.{Span}
 use Rattle.pool.proofs.Count.{free_is, generation-is}
-
--- the set after an answer of whether block b was freed
-module _ (b : ℕ) (frees : ℕ → Bool) where
-  pub freed_now : {t : Bool} → t ≡ true → put b true frees ≡ freed_if t b frees
-  unfolding freed_if
-  freed_now e = rw e refl
-
-  pub freed_not : {t : Bool} → t ≡ false → frees ≡ freed_if t b frees
-  unfolding freed_if
-  freed_not e = rw e refl
-
-  pub freed_other : (t : Bool) (k : ℕ) → (k ≡ b → ⊥) → freed_if t b frees k ≡ frees k
-  unfolding freed_if
-  freed_other true k ne = put_other b true frees k ne
-  freed_other false k ne = refl
 
 module _ (gens counts : List ℕ) (frees : ℕ → Bool) where
   abbrev cell : ℕ → Cell
@@ -58,6 +44,14 @@ module _ (gens counts : List ℕ) (frees : ℕ → Bool) where
   pub free_in_lem : (pool : Span) → pool.to ≤ blocks → count_from frees pool.from (pool.to - pool.from) ≡ free_in row pool
   unfolding free_in
   free_in_lem pool h = count_same frees _ pool.from (pool.to - pool.from) (λ j l g. sym (rw (at_in j (omega arith)) (free_is _ _ _)))
+
+  pub generation-at : length gens ≡ blocks → (b : ℕ) → generation_at row b ≡ get_or gens b 0
+  unfolding generation_at generation_of
+  generation-at l b = go (dec_lt b blocks)
+    where
+      go : Dec (b < blocks) → generation_at row b ≡ get_or gens b 0
+      go (yes h) = rw (at_in b h) (generation-is _ _ _)
+      go (no h) = rw (at_out b (omega arith), get_or-eq_default gens 0 {n = b} (omega arith)) refl
 
   pub generations_are : length gens ≡ blocks → gens ≡ tab (generation_at row) blocks
   unfolding generation_at

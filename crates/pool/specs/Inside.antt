@@ -1,6 +1,6 @@
 -- How a pool's fields stand for a row and for marks. For this crate's proofs alone: no other crate names this file.
-use Rattle.std.specs.Prelude.{Bool, true, false, cond, List, ◌≡◌, ℕ, leb, length, get_or}
-use Rattle.bits.specs.Members.{members, put}
+use Rattle.std.specs.Prelude.{Bool, true, false, cond, List, ℕ, leb, get_or}
+use Rattle.bits.specs.Members.{members}
 use Rattle.ground.specs.Range.{tab}
 use Rattle.pool.specs.Cell.{Cell, free, live, retired, back, generation_of, most_references}
 use Rattle.pool.specs.Row.{blocks}
@@ -18,7 +18,7 @@ unfoldable pub row_of : List ℕ → List ℕ → (ℕ → Bool) → List Cell
 row_of gens counts frees = tab (cell_at gens counts frees) blocks
 
 unfoldable pub cells : Pool → List Cell
-cells p = row_of p.gens p.counts (members p.free)
+cells p = row_of p.generations p.counts (members p.free)
 
 unfoldable pub marks : Pool → List ℕ
 marks p = p.marks
@@ -26,12 +26,3 @@ marks p = p.marks
 -- What going back makes of any block.
 unfoldable pub went_back : Cell → Cell
 went_back c = back (generation_of c)
-
--- The set with block b where that is freed.
-unfoldable pub freed_if : Bool → ℕ → (ℕ → Bool) → ℕ → Bool
-freed_if t b frees = cond t (put b true frees) frees
-
--- The arrays have their lengths.
-pub record Sized (gens counts : List ℕ) : Type 0 where
-  pub gens_length : length gens ≡ blocks
-  pub counts_length : length counts ≡ blocks

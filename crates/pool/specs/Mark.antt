@@ -1,10 +1,8 @@
 -- Document 02, request 5: how near each pool came to having no block left.
-use Rattle.std.specs.Prelude.{List, [], ◌∷◌, ℕ, ◌-◌, min, get_or, set}
+use Rattle.std.specs.Prelude.{List, [], ◌∷◌, Option, Some, None, ℕ, ◌-◌, min, get_or, set}
 use Rattle.ground.specs.Range.{count_from}
 use Rattle.pool.specs.Cell.{Cell, is_free, handed_out}
 use Rattle.pool.specs.Row.{at, changed}
-use Rattle.pool.specs.declared.Found.{Found}
-use Rattle.pool.specs.declared.Found.TheVariants.{At, Nothing}
 use Rattle.pool.specs.declared.Span.{Span}
 
 -- The number of free blocks of a pool.
@@ -27,6 +25,6 @@ unfoldable pub mark_with : List Cell → List ℕ → Span → ℕ → ℕ
 mark_with s marks pool b = min (free_in (changed handed_out s b) pool) (mark_of marks pool)
 
 -- Handing out moves the mark of its own pool alone; where nothing is found, no mark moves.
-unfoldable pub marks_after : List Cell → List ℕ → Span → Found → List ℕ
-marks_after s marks pool (At b) = set marks pool.number (mark_with s marks pool b)
-marks_after s marks pool Nothing = marks
+unfoldable pub marks_after : List Cell → List ℕ → Span → Option ℕ → List ℕ
+marks_after s marks pool (Some b) = set marks pool.number (mark_with s marks pool b)
+marks_after s marks pool None = marks

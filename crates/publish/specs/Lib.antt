@@ -1,2 +1,2 @@
--- Arrays: how a state reads the arrays that are lent, what the posts rely on, and what they come to.
+-- Arrays: how a state reads what is lent, what the posts rely on, and what they come to.
 pub mod Arrays

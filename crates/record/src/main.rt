@@ -6,5 +6,5 @@ use std::io;
 
 fn main(rt: HostRuntime) -> io::Result<()> {
     let mut input = rt.reader();
-    player::play(&rt, &mut input, player::ALL, player::HERE, Replies::Framed)
+    player::play(&rt, &mut input, player::HERE, Replies::Framed(0))
 }

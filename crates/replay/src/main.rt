@@ -7,5 +7,5 @@ use std::io;
 
 fn main(rt: HostRuntime) -> io::Result<()> {
     let mut input = rt.reader();
-    player::play(&rt, &mut input, player::ALL, player::HERE, Replies::Plain)
+    player::play(&rt, &mut input, player::HERE, Replies::Plain)
 }

@@ -10,164 +10,154 @@
 // What the kernel never writes is told too: `unknown answer 16`, a number above 15; `handle 1 2`, where no event is told.
 #![tactic(auto)]
 
-use numbers::{HANDLE, REPLY_BYTES, answer};
-use std::io;
-use text::{Line, wide, with_bytes};
+use numbers::answer::Refusal;
+use numbers::{HANDLE, REPLY_BYTES};
+use std::fmt;
+use text::Spaced;
 
 // An event that came from timer t has the block number 128 + t.
 const FIRST_TIMER: u8 = 128;
 
-// Where the actions begin, or the bytes of a payload; where the generation does.
+// Where the actions begin, or the bytes of a payload.
 const COUNTED: usize = 6;
 
-const GENERATION: usize = HANDLE + 1;
+const DONE: u8 = 0;
+
+const CHART: u8 = Refusal::Chart as u8;
+
+// Each answer at its number.
+const ANSWERS: [&str; 16] = [
+    "DONE", "FORM", "AREA", "RANGE", "BUSY", "NOSTEP", "IDLE", "STALE", "ABSENT", "TAKEN", "FULL",
+    "DRY", "HOLDS", "INUSE", "CHART", "TABLE",
+];
+
+const OUTCOMES: [&str; 3] = ["ignored", "internal", "transition"];
+
+#[derive(Clone, Copy, Debug)]
+pub struct InWords(pub [u8; REPLY_BYTES]);
+
+impl fmt::Display for InWords {
+    fn fmt<W: fmt::Write>(&self, f: &mut fmt::Formatter<W>) -> fmt::Result {
+        let reply = self.0;
+        write_answer(f, reply[0])?;
+        if reply[1] != 0 || reply[2] != 0 {
+            return write_step(f, reply);
+        }
+        let handle = Handle::of(reply);
+        if reply[0] == DONE && is_to_new(reply, handle) {
+            write_event(f, handle)?;
+            return write!(f, "  least free {}", reply[3]);
+        }
+        write_values(f, reply)?;
+        write_counted(f, "bytes", reply)?;
+        write_handle(f, handle)
+    }
+}
+
+fn write_answer<W: fmt::Write>(f: &mut fmt::Formatter<W>, number: u8) -> fmt::Result {
+    match ANSWERS.get(usize::from(number)) {
+        Some(name) => f.write_str(name),
+        None => write!(f, "unknown answer {number}"),
+    }
+}
+
+fn write_outcome<W: fmt::Write>(f: &mut fmt::Formatter<W>, outcome: u8) -> fmt::Result {
+    match OUTCOMES.get(usize::from(outcome)) {
+        Some(name) => write!(f, "  {name}"),
+        None => write!(f, "  outcome {outcome}"),
+    }
+}
 
 // The last bytes of a reply: the first of them, and the three of the generation as a number.
-#[derive(Clone, Copy)]
+#[derive(Clone, Copy, Debug, PartialEq, Eq)]
 struct Handle {
     block: u8,
-    generation: u64,
+    generation: u32,
 }
 
-fn with_item(rt: &impl Print, line: Line, name: &[u8], number: u8) -> io::Result<Line> {
-    text::with_named(rt, line, name, wide(number))
-}
+impl Handle {
+    const ZERO: Handle = Handle {
+        block: 0,
+        generation: 0,
+    };
 
-// The answers from ABSENT on: in a function of their own, since a check's time grows with the square of the arms.
-fn with_later_answer(rt: &impl Print, line: Line, number: u8) -> io::Result<Line> {
-    match number {
-        answer::ABSENT => with_bytes(rt, line, b"ABSENT"),
-        answer::TAKEN => with_bytes(rt, line, b"TAKEN"),
-        answer::FULL => with_bytes(rt, line, b"FULL"),
-        answer::DRY => with_bytes(rt, line, b"DRY"),
-        answer::HOLDS => with_bytes(rt, line, b"HOLDS"),
-        answer::INUSE => with_bytes(rt, line, b"INUSE"),
-        answer::CHART => with_bytes(rt, line, b"CHART"),
-        answer::TABLE => with_bytes(rt, line, b"TABLE"),
-        _ => with_item(rt, line, b"unknown answer ", number),
+    fn of(reply: [u8; REPLY_BYTES]) -> Handle {
+        Handle {
+            block: reply[HANDLE],
+            generation: u32::from_le_bytes([
+                reply[HANDLE + 1],
+                reply[HANDLE + 2],
+                reply[HANDLE + 3],
+                0,
+            ]),
+        }
     }
 }
 
-fn with_answer(rt: &impl Print, line: Line, number: u8) -> io::Result<Line> {
-    match number {
-        answer::DONE => with_bytes(rt, line, b"DONE"),
-        answer::FORM => with_bytes(rt, line, b"FORM"),
-        answer::AREA => with_bytes(rt, line, b"AREA"),
-        answer::RANGE => with_bytes(rt, line, b"RANGE"),
-        answer::BUSY => with_bytes(rt, line, b"BUSY"),
-        answer::NOSTEP => with_bytes(rt, line, b"NOSTEP"),
-        answer::IDLE => with_bytes(rt, line, b"IDLE"),
-        answer::STALE => with_bytes(rt, line, b"STALE"),
-        _ => with_later_answer(rt, line, number),
+impl fmt::Display for Handle {
+    fn fmt<W: fmt::Write>(&self, f: &mut fmt::Formatter<W>) -> fmt::Result {
+        write!(f, "{} {}", self.block, self.generation)
     }
 }
 
-fn with_outcome(rt: &impl Print, line: Line, outcome: u8) -> io::Result<Line> {
-    match outcome {
-        0 => with_bytes(rt, line, b"  ignored"),
-        1 => with_bytes(rt, line, b"  internal"),
-        2 => with_bytes(rt, line, b"  transition"),
-        _ => with_item(rt, line, b"  outcome ", outcome),
+fn write_event<W: fmt::Write>(f: &mut fmt::Formatter<W>, event: Handle) -> fmt::Result {
+    match event.block.checked_sub(FIRST_TIMER) {
+        Some(timer) => write!(f, "  timer {timer}"),
+        None => write!(f, "  event {event}"),
     }
-}
-
-fn handle_of(reply: [u8; REPLY_BYTES]) -> Handle {
-    let low = wide(reply[GENERATION]);
-    let middle = wide(reply[GENERATION + 1]);
-    let high = wide(reply[GENERATION + 2]);
-    Handle {
-        block: reply[HANDLE],
-        generation: low + 256 * middle + 65536 * high,
-    }
-}
-
-fn is_zero(handle: Handle) -> bool {
-    handle.block == 0 && handle.generation == 0
-}
-
-fn with_block(rt: &impl Print, line: Line, name: &[u8], handle: Handle) -> io::Result<Line> {
-    let told = with_item(rt, line, name, handle.block)?;
-    text::with_named(rt, told, b" ", handle.generation)
-}
-
-fn with_event(rt: &impl Print, line: Line, event: Handle) -> io::Result<Line> {
-    if FIRST_TIMER <= event.block {
-        return with_item(rt, line, b"  timer ", event.block - FIRST_TIMER);
-    }
-    with_block(rt, line, b"  event ", event)
 }
 
 // A handle that is no event's.
-fn with_handle(rt: &impl Print, line: Line, handle: Handle) -> io::Result<Line> {
-    if is_zero(handle) {
-        return Ok(line);
+fn write_handle<W: fmt::Write>(f: &mut fmt::Formatter<W>, handle: Handle) -> fmt::Result {
+    if handle == Handle::ZERO {
+        return Ok(());
     }
-    with_block(rt, line, b"  handle ", handle)
+    write!(f, "  handle {handle}")
 }
 
-fn with_values(rt: &impl Print, line: Line, number: u8, first: u8, second: u8) -> io::Result<Line> {
-    if number == answer::CHART {
-        return with_item(rt, line, b"  class ", first);
+fn write_values<W: fmt::Write>(f: &mut fmt::Formatter<W>, reply: [u8; REPLY_BYTES]) -> fmt::Result {
+    let first = reply[4];
+    let second = reply[5];
+    match reply[0] {
+        CHART => write!(f, "  class {first}"),
+        DONE => write!(f, "  values {first} {second}"),
+        _ if first != 0 || second != 0 => write!(f, "  values {first} {second}"),
+        _ => Ok(()),
     }
-    if number == answer::DONE || first != 0 || second != 0 {
-        let told = with_item(rt, line, b"  values ", first)?;
-        return with_item(rt, told, b" ", second);
-    }
-    Ok(line)
 }
 
 // The count, what it counts, and as many of these as there can be.
-fn with_counted(
-    rt: &impl Print,
-    line: Line,
-    count: u8,
-    name: &[u8],
-    counted: &[u8],
-) -> io::Result<Line> {
+fn write_counted<W: fmt::Write>(
+    f: &mut fmt::Formatter<W>,
+    name: &str,
+    reply: [u8; REPLY_BYTES],
+) -> fmt::Result {
+    let count = reply[3];
     if count == 0 {
-        return Ok(line);
+        return Ok(());
     }
-    let shown = counted.len().min(count as usize);
-    let named = with_bytes(rt, with_item(rt, line, b"  count ", count)?, name)?;
-    text::with_list(rt, named, &counted[..shown])
+    let counted = &reply[COUNTED..HANDLE];
+    let shown = counted.len().min(usize::from(count));
+    write!(f, "  count {count}  {name}{}", Spaced(&counted[..shown]))
 }
 
 // What START and NEXT tell. START has no signal, and so no event.
-fn with_step(rt: &impl Print, line: Line, reply: [u8; REPLY_BYTES]) -> io::Result<Line> {
-    let handle = handle_of(reply);
-    let count = reply[3];
+fn write_step<W: fmt::Write>(f: &mut fmt::Formatter<W>, reply: [u8; REPLY_BYTES]) -> fmt::Result {
+    let handle = Handle::of(reply);
     let signal = reply[2] % 32;
-    let object = with_item(rt, line, b"  object ", reply[1])?;
-    let moved = with_outcome(rt, object, reply[2] / 32)?;
-    let actions = &reply[COUNTED..HANDLE];
+    write!(f, "  object {}", reply[1])?;
+    write_outcome(f, reply[2] / 32)?;
     if signal == 0 {
-        let acted = with_counted(rt, moved, count, b"  actions", actions)?;
-        return with_handle(rt, acted, handle);
+        write_counted(f, "actions", reply)?;
+        return write_handle(f, handle);
     }
-    let told = with_event(rt, with_item(rt, moved, b"  signal ", signal)?, handle)?;
-    with_counted(rt, told, count, b"  actions", actions)
+    write!(f, "  signal {signal}")?;
+    write_event(f, handle)?;
+    write_counted(f, "actions", reply)
 }
 
 // Whether a reply that is done answers NEW: it alone has no values and yet a count, its pool's mark, or a handle. READ's count
 // comes with the payload's size for a value, and the event of zeros, the first of a fresh pool, with a mark.
-fn is_to_new(count: u8, first: u8, second: u8, handle: Handle) -> bool {
-    first == 0 && second == 0 && (count != 0 || !is_zero(handle))
-}
-
-// The line with a reply.
-pub fn in_words(rt: &impl Print, line: Line, reply: [u8; REPLY_BYTES]) -> io::Result<Line> {
-    let answered = with_answer(rt, line, reply[0])?;
-    if reply[1] != 0 || reply[2] != 0 {
-        return with_step(rt, answered, reply);
-    }
-    let handle = handle_of(reply);
-    let count = reply[3];
-    if reply[0] == answer::DONE && is_to_new(count, reply[4], reply[5], handle) {
-        let event = with_event(rt, answered, handle)?;
-        return with_item(rt, event, b"  least free ", count);
-    }
-    let told = with_values(rt, answered, reply[0], reply[4], reply[5])?;
-    let bytes = &reply[COUNTED..HANDLE];
-    let counted = with_counted(rt, told, count, b"  bytes", bytes)?;
-    with_handle(rt, counted, handle)
+fn is_to_new(reply: [u8; REPLY_BYTES], handle: Handle) -> bool {
+    reply[4] == 0 && reply[5] == 0 && (reply[3] != 0 || handle != Handle::ZERO)
 }

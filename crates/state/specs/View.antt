@@ -1,27 +1,29 @@
 -- How the struct is read as the machine's state, and what a good kernel is.
-use Rattle.std.specs.Prelude.{List, ℕ}
+use Rattle.std.specs.Prelude.{List, ℕ, Result}
 use Rattle.chart.specs.Flags.{in_words}
 use Rattle.machine.specs.Inv.{Inv}
 use Rattle.machine.specs.Reply.{Areas, Answer, both}
 use Rattle.machine.specs.State.{State}
 use Rattle.mail.specs.Entry.{hand_of}
 use Rattle.mail.specs.View.{boxes}
+use Rattle.numbers.specs.declared.answer.Refusal.{Refusal}
 use Rattle.pool.specs.View.{cells, marks}
-use Rattle.state.specs.declared.Answered.{Answered}
+use Rattle.reply.specs.Said.{said}
 use Rattle.state.specs.declared.Kernel.{Kernel}
+use Rattle.tick.specs.Timers.{timers_of}
 
 unfoldable pub state_of : Kernel → State
 state_of k = record {
   cells = cells k.pool;
   marks = marks k.pool;
   events = record { signals = k.signals; sizes = k.sizes; holds = k.holds };
-  boxes = boxes k.places k.heads k.counts;
-  sides = boxes k.side_places k.side_heads k.side_counts;
+  boxes = boxes k.mail;
+  sides = boxes k.sides;
   objects = record { depths = k.depths; rests = k.rests; seats = k.seats };
   wants = k.wants;
   flags = in_words k.flags;
   loaded = k.loaded;
-  timers = record { owners = k.owners; alarms = k.alarms; counters = k.counters; intervals = k.intervals };
+  timers = timers_of k.timers;
   hand = hand_of k.hand;
 }
 
@@ -32,10 +34,10 @@ Good k = Inv (state_of k)
 abbrev pub areas : List ℕ → List ℕ → List ℕ → List ℕ → Areas
 areas p t g l = record { payloads = p; tables = both t g; log = l }
 
--- What a command gave back, with the areas as it left them.
-unfoldable pub answered : Answered → Areas → Answer
-answered r z = record { state = state_of r.kernel; reply = r.reply; areas = z }
+-- The kernel and the reply that a command leaves, with the areas as it left them.
+unfoldable pub told : Kernel → List ℕ → Areas → Answer
+told k reply z = record { state = state_of k; reply = reply; areas = z }
 
--- The same, where a host keeps the kernel and the reply each in its own place.
-abbrev pub told : Kernel → List ℕ → Areas → Answer
-told k reply = answered (record { kernel = k; reply = reply })
+-- The same, of a command's code that answers with its reply or a refusal.
+abbrev pub outcome : Kernel → Result (List ℕ) Refusal → Areas → Answer
+outcome k r = told k (said r)

@@ -1,12 +1,13 @@
--- NEXT, END and DRAIN: their tests by what the code reads, what it says that a step may be taken, and what a step is.
-use mathlib.Core.Bool.{Bool, true, false, cond, not, ◌&&◌}
+-- NEXT, END and DRAIN: what it says that none of their tests holds, what a step is, and DRAIN as a run.
+use mathlib.Core.Bool.{Bool, true, false, not, ◌&&◌}
 use mathlib.Core.List.{List, [], ◌∷◌, ◌++◌}
 use mathlib.Core.Path.{◌≡◌, refl, sym, ap}
-use Prim.Native.Nat.{ℕ, ◌≤◌}
+use Prim.Native.Nat.{ℕ, ◌≤◌, ◌-◌}
 use native.Mathlib.Omega.{arith}
 use borrow.Author.Tests.{eq-eqb, eqb-true, eqb-false, not-false}
 use lib.Dec.{eqb}
-use lib.ListN.{length}
+use lib.ListN.{length, set}
+use Rattle.std.specs.Prelude.{Ok}
 use Rattle.chart.specs.Flags.{in_words}
 use Rattle.chart.specs.Step.{Answer}
 use Rattle.drain.specs.Lent.{Generations, Looks, run_at}
@@ -17,21 +18,22 @@ use Rattle.machine.proofs.Drain.{begun-is, let_go_is, frees-is, drained_by, run_
 use Rattle.machine.proofs.KeepsSteps.{closed_hand, ready, coming-event, rows-within}
 use Rattle.machine.proofs.Run.{run_most}
 use Rattle.machine.proofs.Tests.{NoneHolds, none_holds}
-use Rattle.machine.specs.Charts.{guarded_bad, slot_bad, tables_bad}
+use Rattle.machine.specs.Charts.{slot_bad, tables_bad}
 use Rattle.machine.specs.Inv.{Inv}
-use Rattle.machine.specs.Numbers.{slots, guarded_slot, table_bytes, guarded_bytes, log_bytes}
-use Rattle.machine.specs.Reply.{FORM, AREA, BUSY, IDLE, TABLE, Areas, BothTables, answer, ran, lowest}
+use Rattle.machine.specs.Numbers.{guarded_slot, table_bytes, guarded_bytes, log_bytes}
+use Rattle.machine.specs.Reply.{FORM, AREA, BUSY, IDLE, TABLE, Areas, BothTables, answer, ran, lowest, reply_of}
 use Rattle.machine.specs.Run.{Run, Fit, FitRun, begun, block_of, run_from}
-use Rattle.machine.specs.State.{State, is_open, slot_of, with_cells, with_hand}
+use Rattle.machine.specs.State.{State, is_open, with_boxes, with_cells, with_hand, with_rests}
 use Rattle.machine.specs.Steps.{to_run, slot_to_run, coming, next_answer, next_says, next_tests, step_tests, stepped, ended, frees, drain_from, drain_tests}
+use Rattle.mail.specs.Box.{front, took_front}
 use Rattle.mail.specs.Entry.{hand_of}
+use Rattle.mail.specs.View.{boxes}
 use Rattle.mail.specs.declared.Hand.TheVariants.{Nothing}
 use Rattle.pool.specs.Cell.{fewer, at_last}
 use Rattle.pool.specs.Row.{at, blocks, changed, generation_at, gone_all, never}
 use Rattle.pool.specs.View.{cells, cells-length}
-use Rattle.state.specs.View.{state_of}
+use Rattle.state.specs.View.{outcome, state_of, told}
 use Rattle.state.specs.declared.Kernel.{Kernel}
-use Rattle.steps.specs.Step.{after_step}
 
 pub generations_of : (k : Kernel) (gens : List ℕ) → gens ≡ tab (generation_at (cells k.pool)) blocks → Generations (state_of k) gens
 unfolding state_of
@@ -54,15 +56,6 @@ module _ (spoilt : Bool) (s : State) (tables : BothTables) where
       ∷ (BUSY, is_open s.hand)
       ∷ (IDLE, eqb (to_run s) 0)
       ∷ []
-
-  -- as the code makes them, by the object p that is to run and the slot q that it tests, which is none where no object is to run
-  pub tests_by : (p q : ℕ) (bad busy : Bool) → p ≡ to_run s → q ≡ cond (eqb p 0) slots (slot_of s p) → bad ≡ (eqb q guarded_slot && guarded_bad tables) → busy ≡ is_open s.hand →
-      lowest ((FORM, spoilt) ∷ (AREA, tables_bad tables) ∷ (AREA, bad) ∷ (BUSY, busy) ∷ (IDLE, eqb p 0) ∷ (TABLE, false) ∷ []) ≡ lowest (before ++ ((TABLE, false) ∷ []))
-  tests_by p q bad busy e o b w = rw (b, o, e, by (eqb (to_run s) 0), w) refl
-    where
-      by : (idle : Bool) → (eqb (cond idle slots (slot_to_run s)) guarded_slot && guarded_bad tables) ≡ (not idle && slot_bad (slot_to_run s) tables)
-      by true = refl
-      by false = refl
 
   pub before-rows : (lowest (before ++ ((TABLE, false) ∷ [])) ≡ 0 → ⊥) → lowest (before ++ ((TABLE, false) ∷ [])) ≡ lowest (next_tests spoilt s tables)
   unfolding next_tests step_tests
@@ -91,12 +84,14 @@ module _ (spoilt : Bool) (s : State) (tables : BothTables) where
         let w = rows-within s i r in
         record { event = coming-event s i r; signal = w.signal; rested = w.rest_low; seated = w.slot; end = w.end }
 
--- The step that NEXT takes.
-pub step_is : (k : Kernel) (tables : BothTables) (p : ℕ) → p ≡ to_run (state_of k) → (l : Coming) → Looks (state_of k) (coming (state_of k)) l →
-    (a : Answer) → a ≡ next_answer (state_of k) tables → (z : Areas) →
-    answer (after_step (state_of k) p a.next) (ran p l.signal l.first l.generation a) z ≡ answer (stepped (state_of k) tables) (next_says (state_of k) tables) z
-unfolding stepped next_says coming
-step_is k tables p e l w a r z = rw (w.signal, w.first, w.generation, r, e) refl
+-- The step that NEXT takes: the mailboxes, the states of rest and what is in hand after it, and what it says.
+pub step_is : (k k' : Kernel) (tables : BothTables) (p : ℕ) → p ≡ to_run (state_of k) → (l : Coming) → Looks (state_of k) (coming (state_of k)) l →
+    (a : Answer) → a ≡ next_answer (state_of k) tables →
+    state_of k' ≡ with_boxes (took_front (state_of k).boxes (p - 1)) (with_rests (set (state_of k).objects.rests (p - 1) a.next) (with_hand (hand_of (front (state_of k).boxes (p - 1))) (state_of k))) →
+    (reply : List ℕ) → reply ≡ reply_of (ran p l.signal l.first l.generation a) → (z : Areas) →
+    outcome k' (Ok reply) z ≡ answer (stepped (state_of k) tables) (next_says (state_of k) tables) z
+unfolding told stepped next_says coming
+step_is k k' tables p e l w a r is reply q z = rw (is, q, w.signal, w.first, w.generation, r, e) refl
 
 -- END, by the block in hand.
 module _ (k : Kernel) where
@@ -125,11 +120,11 @@ module _ (spoilt : Bool) (s : State) (tables : BothTables) (log : List ℕ) wher
         eqb-true _ _ (not-false _ h.1.1.1.0),
       )
 
--- DRAIN, as a run over the arrays: each of its states is fit for a step, and what it comes to is what DRAIN does.
+-- DRAIN, as a run over what is lent to it: each of its states is fit for a step, and what it comes to is what DRAIN does.
 module _ (k : Kernel) (gens : List ℕ) (tables : BothTables) (log : List ℕ) (e : gens ≡ tab (generation_at (cells k.pool)) blocks)
     (h : hand_of k.hand ≡ Nothing) (i : Inv (state_of k)) where
   abbrev start : Run
-  start = run_at k.places k.heads k.counts k.rests never log 0
+  start = run_at (boxes k.mail) k.rests never log 0
 
   pub drain_fit : FitRun gens k.signals k.seats (in_words k.flags) tables start
   unfolding state_of

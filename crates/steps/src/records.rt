@@ -2,39 +2,41 @@
 ghost use Rattle.std.specs.Prelude.{List, ◌≡◌, ℕ};
 ghost use Rattle.machine.specs.Machine.{command};
 ghost use Rattle.machine.specs.Reply.{Areas};
-ghost use Rattle.state.specs.View.{answered, areas, Good, state_of};
+ghost use Rattle.state.specs.View.{areas, Good, state_of, told};
 
 use arguments::{arg, spoilt};
-use state::{Answered, Kernel};
+use reply::Reply;
+use state::Kernel;
 
 // NEXT.
-pub fn next_command<'a>(k: Kernel, record: &[u8], tables: &'a [u8], guarded: &'a [u8]) -> Answered
-    requires { Good k }
-    ensures { (d p l : List ℕ) → answered result (areas p tables.now guarded.now l)
-        ≡ command 12 «record».now d (state_of k) (areas p tables.now guarded.now l) }
+pub fn next_command(k: &mut Kernel, record: &[u8], tables: &[u8], guarded: &[u8]) -> Reply
+    requires { Good k.old }
+    ensures { (d p l : List ℕ) → told k.new result (areas p tables.now guarded.now l)
+        ≡ command 12 «record».now d (state_of k.old) (areas p tables.now guarded.now l) }
 {
-    super::next(k, spoilt(record, 0), tables, guarded)
+    reply::said(super::next(k, spoilt(record, 0), tables, guarded))
 }
 
 // END.
-pub fn end_command(k: Kernel, record: &[u8]) -> Answered
-    requires { Good k }
-    ensures { (d : List ℕ) (z : Areas) → answered result z ≡ command 13 «record».now d (state_of k) z }
+pub fn end_command(k: &mut Kernel, record: &[u8]) -> Reply
+    requires { Good k.old }
+    ensures { (d : List ℕ) (z : Areas) → told k.new result z ≡ command 13 «record».now d (state_of k.old) z }
 {
-    super::end(k, spoilt(record, 0))
+    reply::said(super::end(k, spoilt(record, 0)))
 }
 
 // DRAIN budget.
-pub fn drain_command<'a>(
-    k: Kernel,
+pub fn drain_command(
+    k: &mut Kernel,
     record: &[u8],
-    tables: &'a [u8],
-    guarded: &'a [u8],
+    tables: &[u8],
+    guarded: &[u8],
     log: &mut [u8],
-) -> Answered
-    requires { Good k }
-    ensures { (d p : List ℕ) → answered result (areas p tables.now guarded.now log.new)
-        ≡ command 18 «record».now d (state_of k) (areas p tables.now guarded.now log.old) }
+) -> Reply
+    requires { Good k.old }
+    ensures { (d p : List ℕ) → told k.new result (areas p tables.now guarded.now log.new)
+        ≡ command 18 «record».now d (state_of k.old) (areas p tables.now guarded.now log.old) }
 {
-    super::drain(k, spoilt(record, 1), arg(record, 1), tables, guarded, log)
+    let budget = arg(record, 1);
+    reply::said(super::drain(k, spoilt(record, 1), budget, tables, guarded, log))
 }

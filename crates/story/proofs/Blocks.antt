@@ -5,6 +5,7 @@ use mathlib.Core.Path.{◌≡◌, refl, sym, ◌∙◌}
 use Prim.Native.Nat.{ℕ, zero, suc, ◌+◌}
 use lib.Dec.{eqb, ltb}
 use lib.ListN.{get_or}
+use Rattle.std.proofs.Common.{Option, Some, None}
 use Rattle.ground.specs.Bools.{cond_pick}
 use Rattle.chart.specs.Chart.{class_of}
 use Rattle.mail.specs.Entry.{hand_of}
@@ -13,8 +14,6 @@ use Rattle.mail.specs.declared.Hand.TheVariants.{Nothing, Block, Timer}
 use Rattle.pool.specs.Cell.{Cell, handed_out, more, fewer, dropped}
 use Rattle.pool.specs.Laws.{found-lowest}
 use Rattle.pool.specs.Row.{at, changed, found, pool_for}
-use Rattle.pool.specs.declared.Found.{Found}
-use Rattle.pool.specs.declared.Found.TheVariants.{At, Nothing}
 use Rattle.machine.proofs.Tests.{unless_pick, fault_pick}
 use Rattle.machine.specs.Aside.{set_aside, defer, recalled, recall_done, recall, let_go_each, flushed, flush}
 use Rattle.machine.specs.Charts.{load, start, started_at, flag_set, flag}
@@ -120,11 +119,11 @@ module _ (s : State) (r d : List ℕ) (z : Areas) where
   gains : (a : Answer) (b : ℕ) → a.state.cells ≡ changed more s.cells b → Moved s r a
   gains a b e = changes a more b e (λ k j. moves_grown _ _ _ _ (grown_more _ _ (grown_same _)))
 
-  new-moved : arg r 0 ≡ 3 → (g n : ℕ) (payload : List ℕ) (f : Found) → found s.cells n ≡ f → Moved s r (new_in f g n payload s z)
+  new-moved : arg r 0 ≡ 3 → (g n : ℕ) (payload : List ℕ) (f : Option ℕ) → found s.cells n ≡ f → Moved s r (new_in f g n payload s z)
   unfolding new_in new_event reply_of bytes
-  new-moved e g n payload (At b) q =
+  new-moved e g n payload (Some b) q =
       changes _ handed_out b refl (λ k j. moves_handed _ _ (at s.cells k) (rw j (found-lowest s.cells (pool_for n) b q).free_there) ((e, refl), (new_ends s b g n payload z).event ∙ sym j))
-  new-moved e g n payload Nothing q = same _ refl
+  new-moved e g n payload None q = same _ refl
 
   publish-moved : arg r 0 ≡ 6 → (n : ℕ) → receivers s (signal_in s (arg r 1)) objects ≡ n → Moved s r (publish_done n (arg r 1) s z)
   unfolding publish_done reply_of bytes

@@ -6,12 +6,11 @@ use mathlib.Core.Path.{◌≡◌, refl, sym, ap, ◌∙◌}
 use Prim.Native.Nat.{ℕ, zero, suc, ◌<◌}
 use native.Mathlib.Omega.{arith}
 use lib.ListN.{length}
+use Rattle.std.proofs.Common.{Option, Some, None}
 use Rattle.ground.specs.Bools.{eq_or, no_yes}
 use Rattle.pool.specs.Cell.{Cell, free, live, retired, absent, is_free, generation_of, handed_out, dropped}
 use Rattle.pool.specs.Laws.{Lowest, changed-here, found_again, found-lowest, pool-end}
 use Rattle.pool.specs.Row.{at, blocks, found, generation_at, pool_for}
-use Rattle.pool.specs.declared.Found.{Found}
-use Rattle.pool.specs.declared.Found.TheVariants.{At, Nothing}
 use Rattle.pool.specs.declared.Span.{Span}
 use Rattle.machine.proofs.Counts.{back_not_live, live_counted}
 use Rattle.machine.proofs.Tests.{none_holds}
@@ -112,7 +111,7 @@ pub only_new : OnlyNew
 only_new h c b f lives = ⊎_elim (λ l. absurd (not_both (cell h b) f l)) (λ w. w) (moves_live _ _ _ _ (turned h c b) lives)
 
 -- NEW hands out the lowest free block.
-handed_at : (s : State) (b g n : ℕ) (l : List ℕ) (z : Areas) (a : Answer) → b < length s.cells → a ≡ new_in (At b) g n l s z →
+handed_at : (s : State) (b g n : ℕ) (l : List ℕ) (z : Areas) (a : Answer) → b < length s.cells → a ≡ new_in (Some b) g n l s z →
     EndsWith b (generation_of (at s.cells b)) a.reply × (at a.state.cells b ≡ live (generation_of (at s.cells b)) 0)
 unfolding new_in new_event generation_at handed_out
 handed_at s b g n l z a m e = rw e (new_ends s b g n l z, changed-here handed_out s.cells b m)
@@ -128,17 +127,17 @@ module _ (h : Story) (c : Call) (did : Did NEW h c) where
       (new_in (found (kernel h).cells (argument c 2)) (argument c 1) (argument c 2) (payload c.command) (kernel h) c.areas)
   made = new_made (kernel h) c.command c.chart c.areas did.1 did.0
 
-  takes : (b : ℕ) → Lowest (kernel h).cells pool b → found (kernel h).cells (argument c 2) ≡ At b → (event h c ≡ b) × HandsOut b
+  takes : (b : ℕ) → Lowest (kernel h).cells pool b → found (kernel h).cells (argument c 2) ≡ Some b → (event h c ≡ b) × HandsOut b
   unfolding kernel HandsOut
   takes b w f =
       let l : b < length (kernel h).cells = omega (arith, w.high, pool-end (argument c 2), (kept h).store.cells-length) in
       let x = handed_at (kernel h) b (argument c 1) (argument c 2) (payload c.command) c.areas _ l (rw f at made.is) in
       (x.0.event, (w, x.0.generation (last_most h b), x.1))
 
-  some : (f : Found) → found (kernel h).cells (argument c 2) ≡ f → HandsOut (event h c)
+  some : (f : Option ℕ) → found (kernel h).cells (argument c 2) ≡ f → HandsOut (event h c)
   unfolding new_tests none_found
-  some (At b) f = let x = takes b (found-lowest (kernel h).cells pool b f) f in rw x.0 x.1
-  some Nothing f =
+  some (Some b) f = let x = takes b (found-lowest (kernel h).cells pool b f) f in rw x.0 x.1
+  some None f =
       no_yes (sym (rw f at (none_holds (new_tests (spoilt_new (argument c 2) c.command) (argument c 1) (argument c 2) (kernel h) c.areas.payloads) refl made.none).1.1.1.1.0))
 
 pub handed : Handed

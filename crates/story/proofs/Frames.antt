@@ -7,13 +7,12 @@ use mathlib.Core.Path.{◌≡◌, refl, ap, ◌∙◌}
 use Prim.Native.Nat.{ℕ, zero, suc, ◌+◌}
 use lib.Dec.{eqb, ltb}
 use lib.ListN.{get_or}
+use Rattle.std.proofs.Common.{Option, Some, None}
 use Rattle.ground.specs.Bools.{cond_pick}
 use Rattle.chart.specs.Chart.{class_of}
 use Rattle.mail.specs.Entry.{hand_of}
 use Rattle.mail.specs.declared.Hand.{Hand}
 use Rattle.mail.specs.declared.Hand.TheVariants.{Nothing, Block, Timer}
-use Rattle.pool.specs.declared.Found.{Found}
-use Rattle.pool.specs.declared.Found.TheVariants.{At, Nothing}
 use Rattle.machine.proofs.Tests.{unless_pick, fault_pick}
 use Rattle.machine.specs.Aside.{set_aside, defer, recalled, recall_done, recall, let_go_each, flushed, flush}
 use Rattle.machine.specs.Charts.{load, start, started_at, flag_set, flag}
@@ -176,9 +175,9 @@ module _ (s : State) (r d : List ℕ) (z : Areas) where
   unless_framed : (n : ℕ) (a : Answer) → Framed a → Framed (unless n s z a)
   unless_framed n a h = unless_pick s z a Framed n (λ j e. unchanged _ refl refl refl refl refl refl refl) (λ e. h)
 
-  new_framed : arg r 0 ≡ 3 → (f : Found) (g n : ℕ) (payload : List ℕ) → Framed (new_in f g n payload s z)
+  new_framed : arg r 0 ≡ 3 → (f : Option ℕ) (g n : ℕ) (payload : List ℕ) → Framed (new_in f g n payload s z)
   unfolding new_in new_event
-  new_framed e (At b) g n payload = record {
+  new_framed e (Some b) g n payload = record {
     loaded = λ n. refl;
     tables = λ n. refl;
     depths = λ n. refl;
@@ -191,7 +190,7 @@ module _ (s : State) (r d : List ℕ) (z : Areas) where
     sides = λ n m l. refl;
     flags = λ n m. refl;
   }
-  new_framed e Nothing g n payload = unchanged _ refl refl refl refl refl refl refl
+  new_framed e None g n payload = unchanged _ refl refl refl refl refl refl refl
 
   publish_framed : (n b : ℕ) → Framed (publish_done n b s z)
   unfolding publish_done

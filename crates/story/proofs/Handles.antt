@@ -5,12 +5,12 @@ use Prim.Native.Nat.{ℕ, ◌+◌, ◌*◌, ◌/◌, ◌%◌, ◌≤◌}
 use native.Mathlib.Omega.{arith}
 use lib.ListN.{get_or}
 use lib.Seq.{get_or-append-add}
+use Rattle.std.proofs.Common.{Some}
 use Rattle.ground.specs.Bytes.{padded}
 use Rattle.ground.specs.Padding.{length-padded}
 use Rattle.chart.specs.Numbers.{most_actions}
 use Rattle.pool.specs.Cell.{last_generation}
 use Rattle.pool.specs.Row.{generation_at}
-use Rattle.pool.specs.declared.Found.TheVariants.{At}
 use Rattle.machine.specs.Events.{new_in}
 use Rattle.machine.specs.Numbers.{handle_place}
 use Rattle.machine.specs.Reply.{Areas, BothTables, bytes, handle, generation_from, reply_of}
@@ -42,7 +42,7 @@ module _ (acts : List ℕ) (b gen : ℕ) where
   unfolding bytes handle
   ends n p outcome g count v w = record { event = behind 0; generation = λ l. rw (behind 1, behind 2, behind 3) (three_bytes gen l) }
 
-pub new_ends : (s : State) (b g n : ℕ) (payload : List ℕ) (z : Areas) → EndsWith b (generation_at s.cells b) (new_in (At b) g n payload s z).reply
+pub new_ends : (s : State) (b g n : ℕ) (payload : List ℕ) (z : Areas) → EndsWith b (generation_at s.cells b) (new_in (Some b) g n payload s z).reply
 unfolding new_in reply_of
 new_ends s b g n payload z = ends _ _ _ _ _ _ _ _ _ _
 

@@ -6,6 +6,7 @@ use Prim.Native.Nat.{ℕ, zero, suc, ◌<◌, ◌≤◌, min}
 use native.Mathlib.Omega.{arith, min_cases}
 use lib.ListN.{length, get_or, length-set}
 use lib.Seq.{get_or-set_same, get_or-set_other}
+use Rattle.std.proofs.Common.{Some}
 use Rattle.ground.specs.Bools.{eq_or}
 use Rattle.machine.specs.Events.{new_event, new_in}
 use Rattle.machine.specs.Machine.{payload}
@@ -15,7 +16,6 @@ use Rattle.pool.specs.Laws.{Lowest, changed_other, found_again}
 use Rattle.pool.specs.Mark.{mark_of, mark_with, marks_after, pools}
 use Rattle.pool.specs.Pools.{free_more, free_same, fresh_free, fresh-mark, pool_marked, same_number, same_pool}
 use Rattle.pool.specs.Row.{changed, pool_for}
-use Rattle.pool.specs.declared.Found.TheVariants.{At}
 use Rattle.pool.specs.declared.Span.{Span}
 use Rattle.story.specs.Calls.{Call, Story, fresh, then, kernel, answer_in}
 use Rattle.story.specs.Demands.{Marked, MarkShown, OnlyTaking}
@@ -48,7 +48,7 @@ module _ (h : Story) (c : Call) (did : Did NEW h c) where
   lowest : Lowest (kernel h).cells its taken
   lowest = (handed h c did).0
 
-  is : answer_in h c ≡ new_in (At taken) (argument c 1) (argument c 2) (payload c.command) (kernel h) c.areas
+  is : answer_in h c ≡ new_in (Some taken) (argument c 1) (argument c 2) (payload c.command) (kernel h) c.areas
   is =
       (new_made (kernel h) c.command c.chart c.areas did.1 did.0).is
       ∙ ap (λ f. new_in f (argument c 1) (argument c 2) (payload c.command) (kernel h) c.areas) (found_again (kernel h).cells its taken lowest)
@@ -57,7 +57,7 @@ module _ (h : Story) (c : Call) (did : Did NEW h c) where
   unfolding kernel new_in new_event
   cells_are = ap (λ a. a.state.cells) is
 
-  marks_are : (kernel (then h c)).marks ≡ marks_after (kernel h).cells (kernel h).marks its (At taken)
+  marks_are : (kernel (then h c)).marks ≡ marks_after (kernel h).cells (kernel h).marks its (Some taken)
   unfolding kernel new_in new_event
   marks_are = ap (λ a. a.state.marks) is
 
@@ -73,7 +73,7 @@ marks-length fresh = unfold kernel in refl
 marks-length (then h c) =
     ⊎_elim (λ did. ap length (marks_are h c did) ∙ after did) (λ other. ap length (marks_stay h c other)) (new_or_other h c) ∙ marks-length h
   where
-    after : (did : Did NEW h c) → length (marks_after (kernel h).cells (kernel h).marks (its h c did) (At (taken h c did))) ≡ length (kernel h).marks
+    after : (did : Did NEW h c) → length (marks_after (kernel h).cells (kernel h).marks (its h c did) (Some (taken h c did))) ≡ length (kernel h).marks
     after did = unfold marks_after in length-set (kernel h).marks (its h c did).number _
 
 -- what it makes of the mark of its own pool, and of another

@@ -7,6 +7,7 @@ use native.Mathlib.Omega.{arith}
 use borrow.Author.Tests.{eqb-true, eqb-false, eq-eqb, ne_eqb, le-leb, lt-leb, le-ltb, ltb-true, ltb-false, not-true}
 use lib.Dec.{eqb, ltb, leb, eqb-suc-zero}
 use lib.ListN.{length, get_or}
+use Rattle.std.proofs.Common.{Option, Some, None}
 use Rattle.ground.specs.Bools.{no_yes}
 use Rattle.ground.specs.Bytes.{blank}
 use Rattle.ground.specs.Every.{every-at, every_all}
@@ -17,8 +18,6 @@ use Rattle.mail.specs.Box.{highest, queued}
 use Rattle.mail.specs.Laws.{highest-is, highest_none, queued_took}
 use Rattle.pool.specs.Cell.{Cell, is_free}
 use Rattle.pool.specs.Row.{at, found_in, lowest_free}
-use Rattle.pool.specs.declared.Found.{Found}
-use Rattle.pool.specs.declared.Found.TheVariants.{At, Nothing}
 use Rattle.pool.specs.declared.Span.{Span}
 use Rattle.machine.specs.Aside
 use Rattle.machine.specs.Aside.{recall_done}
@@ -88,7 +87,7 @@ none_is cells pool = go (ltb (lowest_free cells pool) pool.to) refl
     some false e l = refl
 
     go : (t : Bool) → ltb (lowest_free cells pool) pool.to ≡ t →
-        none_found (cond t (At (lowest_free cells pool)) Nothing) ≡ every (λ b. not (is_free (at cells b))) pool.from pool.to
+        none_found (cond t (Some (lowest_free cells pool)) None) ≡ every (λ b. not (is_free (at cells b))) pool.from pool.to
     go true e = some _ refl (ltb-true _ _ e)
     go false e =
         let l = ltb-false (lowest_free cells pool) pool.to e in
@@ -154,10 +153,10 @@ module _ (s : State) (z : Areas) where
   load-number false false false false false true a n e = refl
   load-number false false false false false false a n e = e
 
-  new_done : (f : Found) (g n : ℕ) (payload : List ℕ) → number_of (new_in f g n payload s z) ≡ 0
+  new_done : (f : Option ℕ) (g n : ℕ) (payload : List ℕ) → number_of (new_in f g n payload s z) ≡ 0
   unfolding new_in reply_of bytes
-  new_done (At b) g n payload = refl
-  new_done Nothing g n payload = refl
+  new_done (Some b) g n payload = refl
+  new_done None g n payload = refl
 
   recall_done_lem : (n q p : ℕ) → number_of (recall_done n q p s z) ≡ 0
   unfolding recall_done reply_of bytes

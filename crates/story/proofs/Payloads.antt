@@ -10,6 +10,7 @@ use borrow.Author.Tests.{eqb-true, eq-eqb, ne_eqb, ltb-true, ltb-false, not-fals
 use lib.Dec.{eqb, ltb}
 use lib.ListN.{length, get_or, set, take, drop, replicate, length-drop}
 use lib.Seq.{get_or-set_other, get_or-set_same, length-take-le, take-take, take_at}
+use Rattle.std.proofs.Common.{Option, Some, None}
 use Rattle.ground.specs.Bools.{no_yes, eq_or}
 use Rattle.ground.specs.Bytes.{padded}
 use Rattle.ground.specs.Padding.{length-padded}
@@ -17,8 +18,6 @@ use Rattle.chart.proofs.Theorems.{slot_size_lem}
 use Rattle.pool.specs.Cell.{handed_out}
 use Rattle.pool.specs.Laws.{changed_other, found-lowest, pool-end}
 use Rattle.pool.specs.Row.{at, blocks, found, pool_for}
-use Rattle.pool.specs.declared.Found.{Found}
-use Rattle.pool.specs.declared.Found.TheVariants.{At, Nothing}
 use Rattle.machine.proofs.Blocks.{place_end}
 use Rattle.machine.proofs.Counts.{live_handle}
 use Rattle.machine.proofs.Tests.{NoneHolds, none_holds, within_high, within_block}
@@ -119,7 +118,7 @@ record News (s : State) (z : Areas) (g n : ℕ) (l : List ℕ) (k : ℕ) (a : An
   event : said_event a.reply ≡ k
   others : (b : ℕ) → (b ≡ k → ⊥) → at a.state.cells b ≡ at s.cells b
 
-news_of : (s : State) (z : Areas) (g n : ℕ) (l : List ℕ) (k : ℕ) (a : Answer) → a ≡ new_in (At k) g n l s z → News s z g n l k a
+news_of : (s : State) (z : Areas) (g n : ℕ) (l : List ℕ) (k : ℕ) (a : Answer) → a ≡ new_in (Some k) g n l s z → News s z g n l k a
 unfolding new_in new_event
 news_of s z g n l k a e = record {
   sizes = rw e refl;
@@ -162,10 +161,10 @@ module _ (h : Story) (c : Call) (did : Did NEW h c) where
   unfolding given_to
   given-new k b e = rw (does_so h c NEW did, e) refl
 
-  new-has : (first : List ℕ) → OnlyKernel payload_area first (then h c) → (b : ℕ) → b < blocks → is_live (cell (then h c) b) ≡ true → (is_live (cell h b) ≡ true → Given h first b) → (f : Found) →
+  new-has : (first : List ℕ) → OnlyKernel payload_area first (then h c) → (b : ℕ) → b < blocks → is_live (cell (then h c) b) ≡ true → (is_live (cell h b) ≡ true → Given h first b) → (f : Option ℕ) →
       found s.cells (argument c 2) ≡ f → Given (then h c) first b
   unfolding none_found kernel
-  new-has first only b l lives was (At k) e =
+  new-has first only b l lives was (Some k) e =
       let w = found-lowest s.cells (pool_for (argument c 2)) k e in
       let m : k < blocks = omega (arith, w.high, pool-end (argument c 2)) in
       let x = news_of s c.areas (argument c 1) (argument c 2) (payload r) k (answer_in h c) (rw e at made.is) in
@@ -174,16 +173,16 @@ module _ (h : Story) (c : Call) (did : Did NEW h c) where
       rw (z, left_whole payload_area first h c only whole, x.payloads, given-new k b x.event) (
       placed s.events.sizes c.areas.payloads k (argument c 2) (take (argument c 2) (payload r)) (omega (arith, (kept h).store.sizes_length)) m whole given_long b (given_to h b)
       (λ ne. rw area (was (rw (x.others b ne) at lives))))
-  new-has first only b l lives was Nothing e = no_yes (sym (rw e at is_found))
+  new-has first only b l lives was None e = no_yes (sym (rw e at is_found))
 
-  new-length : (f : Found) → found s.cells (argument c 2) ≡ f → length (answer_in h c).areas.payloads ≡ length c.areas.payloads
+  new-length : (f : Option ℕ) → found s.cells (argument c 2) ≡ f → length (answer_in h c).areas.payloads ≡ length c.areas.payloads
   unfolding none_found
-  new-length (At k) e =
+  new-length (Some k) e =
       let w = found-lowest s.cells (pool_for (argument c 2)) k e in
       let m : k < blocks = omega (arith, w.high, pool-end (argument c 2)) in
       let x = news_of s c.areas (argument c 1) (argument c 2) (payload r) k (answer_in h c) (rw e at made.is) in
       ap length x.payloads ∙ over-length c.areas.payloads (place_of k) _ (omega (arith, whole, place_end k m, length-padded (capacity k) (take (argument c 2) (payload r))))
-  new-length Nothing e = no_yes (sym (rw e at is_found))
+  new-length None e = no_yes (sym (rw e at is_found))
 
 given : (h : Story) (first : List ℕ) → OnlyKernel payload_area first h → (b : ℕ) → b < blocks → is_live (cell h b) ≡ true → Given h first b
 given fresh first only b l lives =

@@ -4,76 +4,87 @@ use mathlib.Core.Path.{◌≡◌, refl}
 use Prim.Native.Nat.{ℕ, suc, ◌+◌, ◌-◌, ◌<◌, ◌≤◌}
 use native.Mathlib.Omega.{arith}
 use borrow.Author.Tests.{eq-eqb, ne_eqb, lt-ltb, le-ltb}
-use lib.ListN.{get_or, set}
+use lib.ListN.{get_or, length, set}
 use Rattle.machine.proofs.Parts.{timers-count}
 use Rattle.machine.specs.Clocks.{Ticked, ticked, tick_from, tick_timer, fire, with_counter}
-use Rattle.machine.specs.Numbers.{objects, timers}
+use Rattle.machine.specs.Inv.{ArmedOk}
+use Rattle.machine.specs.Numbers.{timers}
 use Rattle.machine.specs.State.{State}
-use Rattle.mail.specs.Box
-use Rattle.mail.specs.Box.{push_back}
+use Rattle.mail.specs.Box.{behind}
 use Rattle.mail.specs.Entry.{entry_of}
-use Rattle.mail.specs.View.{Holds, Mail, boxes, queued_in}
-use Rattle.mail.specs.declared.Hand.TheVariants.{Timer}
+use Rattle.mail.specs.View.{entries, boxes_at, no_ring, pushed_back}
+use Rattle.mail.specs.declared.Hand.TheVariants
+use Rattle.mail.specs.declared.Ring.{Ring}
+use Rattle.tick.specs.Timers.{no_timer, alarm_at, counter_at, interval_at, owner_at, timers_counted}
 use Rattle.tick.specs.Timing.{Ready, timing}
+use Rattle.tick.specs.declared.Timer.{Timer}
 
-module _ (places heads counts counters depths owners alarms intervals : List ℕ) (t fired late : ℕ) where
-  -- what the turn of timer t promises of the arrays and numbers that it leaves
-  abbrev Turned : (places counts counters : List ℕ) (fired late : ℕ) → Type 0
-  Turned pl cs ct f l =
-      Ready pl heads cs ct depths owners alarms intervals
-      × (((f ≤ t + 1) × (l ≤ t + 1))
-      × ((s : State) → ticked (timing pl heads cs ct depths owners alarms intervals s) f l ≡ tick_timer t (ticked (timing places heads counts counters depths owners alarms intervals s) fired late)))
+module _ (ts : List Timer) (depths : List ℕ) (t : ℕ) where
+  abbrev timer : Timer
+  timer = get_or ts t no_timer
 
-  -- the counter, the timer's object, the entries and the free places of its mailbox
-  abbrev left : ℕ
-  left = get_or counters t 0
+  -- the timers with another counter for this one
+  abbrev with : ℕ → List Timer
+  with c = set ts t (record { owner = timer.owner; alarm = timer.alarm; counter = c; interval = timer.interval })
 
-  abbrev owner : ℕ
-  owner = get_or owners t 0
+  module _ (ready : Ready ts depths) (on : timer.counter ≡ 0 → ⊥) where
+    pub armed_ok : ArmedOk depths timer.owner timer.alarm
+    armed_ok = rw (owner_at ts t, alarm_at ts t) at (ready.timers.armed t (rw (counter_at ts t) (omega arith)))
 
-  abbrev queued : ℕ
-  queued = get_or counts (owner - 1) 0
+    pub still_ready : t < timers → (c : ℕ) → Ready (with c) depths
+    still_ready l c = record {
+      deep = ready.deep;
+      timers = rw (timers_counted ts t c) (timers-count _ depths ready.timers t l c (λ h. ready.timers.armed t (rw (counter_at ts t) (omega arith))));
+    }
 
-  abbrev room : ℕ
-  room = get_or depths (owner - 1) 0 - queued
+  module _ (rings : List Ring) (s : State) (fired late : ℕ) where
+    abbrev before : Ticked
+    before = ticked (timing ts rings depths s) fired late
 
-  module _ (ready : Ready places heads counts counters depths owners alarms intervals) (few : (t < timers) × (fired ≤ t) × (late ≤ t)) where
-    pub turn_off : left ≡ 0 → Turned places counts counters fired late
+    pub turn_off : timer.counter ≡ 0 → before ≡ tick_timer t before
     unfolding timing tick_timer
-    turn_off e = (ready, ((omega arith, omega arith), λ s. rw (eq-eqb left 0 e) refl))
+    turn_off e = rw (counter_at ts t, eq-eqb timer.counter 0 e) refl
 
-    module _ (on : left ≡ 0 → ⊥) where
-      counted : (pl cs : List ℕ) → Mail pl heads cs → (c : ℕ) → Ready pl heads cs (set counters t c) depths owners alarms intervals
-      counted pl cs m c = record {
-        mail = m;
-        deep = ready.deep;
-        timers =
-            timers-count (record { owners = owners; alarms = alarms; counters = counters; intervals = intervals }) depths ready.timers t few.0 c
-            (λ h. ready.timers.armed t (omega arith));
-      }
-
-      pub turn_less : 1 < left → Turned places counts (set counters t (left - 1)) fired late
+    module _ (on : timer.counter ≡ 0 → ⊥) where
+      pub turn_less : 1 < timer.counter → ticked (timing (with (timer.counter - 1)) rings depths s) fired late ≡ tick_timer t before
       unfolding timing tick_timer with_counter
-      turn_less h =
-          (counted places counts ready.mail (left - 1), ((omega arith, omega arith), λ s. rw (ne_eqb left 0 on, lt-ltb 1 left h) refl))
+      turn_less h = rw (timers_counted ts t (timer.counter - 1), counter_at ts t, ne_eqb timer.counter 0 on, lt-ltb 1 timer.counter h) refl
 
-      module _ (due : left ≤ 1) where
-        pub turn_late : room ≡ 0 → Turned places counts counters fired (late + 1)
+      module _ (due : timer.counter ≤ 1) where
+        abbrev queued : ℕ
+        queued = length (entries (get_or rings (timer.owner - 1) no_ring))
+
+        abbrev depth : ℕ
+        depth = get_or depths (timer.owner - 1) 0
+
+        pub turn_late : depth ≤ queued → ticked (timing ts rings depths s) fired (late + 1) ≡ tick_timer t before
         unfolding timing tick_timer
-        turn_late e =
-            let q = queued_in places heads counts (owner - 1) in
-            (ready, ((omega arith, omega arith), λ s. rw (ne_eqb left 0 on, le-ltb 1 left due, q, le-ltb 0 room (omega arith)) refl))
+        turn_late h =
+            rw (
+              counter_at ts t,
+              owner_at ts t,
+              ne_eqb timer.counter 0 on,
+              le-ltb 1 timer.counter due,
+              boxes_at rings (timer.owner - 1),
+              le-ltb 0 (depth - queued) (omega arith),
+            ) refl
 
-        module _ (free : room ≡ 0 → ⊥) where
-          pub may-fire : (t < timers) × (1 ≤ owner) × (owner ≤ objects) × (queued < Box.room)
-          may-fire = let a = ready.timers.armed t (omega arith) in (few.0, a.low, a.high, omega (arith, ready.deep (owner - 1)))
-
-          pub turn-fire : (pl cs : List ℕ) → Holds pl heads cs (push_back (boxes places heads counts) (owner - 1) (entry_of (Timer t (get_or alarms t 0)))) →
-              Turned pl cs (set counters t (get_or intervals t 0)) (fired + 1) late
-          unfolding timing tick_timer fire with_counter
-          turn-fire pl cs h =
-              let q = queued_in places heads counts (owner - 1) in
-              (counted pl cs h.mail (get_or intervals t 0), ((omega arith, omega arith), λ s. rw (h.are, ne_eqb left 0 on, le-ltb 1 left due, q, lt-ltb 0 room (omega arith)) refl))
+        pub turn-fire : queued < depth → (r : Ring) → entries r ≡ behind (entry_of (TheVariants.Timer t timer.alarm)) (entries (get_or rings (timer.owner - 1) no_ring)) →
+            ticked (timing (with timer.interval) (set rings (timer.owner - 1) r) depths s) (fired + 1) late ≡ tick_timer t before
+        unfolding timing tick_timer fire with_counter
+        turn-fire h r e =
+            rw (
+              timers_counted ts t timer.interval,
+              pushed_back rings (timer.owner - 1) r _ e,
+              counter_at ts t,
+              owner_at ts t,
+              alarm_at ts t,
+              interval_at ts t,
+              ne_eqb timer.counter 0 on,
+              le-ltb 1 timer.counter due,
+              boxes_at rings (timer.owner - 1),
+              lt-ltb 0 (depth - queued) (omega arith),
+            ) refl
 
 -- the timers from t on
 pub ticks_step : (t : ℕ) (x : Ticked) → t < timers → tick_from (timers - t) t x ≡ tick_from (timers - (t + 1)) (t + 1) (tick_timer t x)

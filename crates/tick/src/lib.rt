@@ -1,133 +1,81 @@
-// TICK over arrays that the kernel lends: the turn of each timer.
+// TICK: the turn of each timer, on the timers and mailboxes that the kernel lends.
 #![tactic(auto)]
 
-ghost use Rattle.std.specs.Prelude.{◌≡◌, ◌+◌, ◌-◌, ◌<◌, ◌≤◌, get_or};
-ghost use Rattle.machine.specs.Clocks.{ticked, tick_all, tick_timer};
-ghost use Rattle.machine.specs.Numbers.{objects, timers};
+ghost use Rattle.std.specs.Prelude.{◌≡◌, ◌+◌, ◌<◌, ◌≤◌};
+ghost use Rattle.machine.specs.Clocks as machine;
+ghost use Rattle.machine.specs.Clocks.{ticked};
 ghost use Rattle.machine.specs.State.{State};
-ghost use Rattle.mail.specs.Box.{push_back, room};
-ghost use Rattle.mail.specs.Entry.{entry_of};
-ghost use Rattle.mail.specs.View.{boxes, Holds, Mail};
-ghost use Rattle.mail.specs.declared.Hand.TheVariants.{Timer};
 ghost use Rattle.tick.specs.Timing.{Ready, timing};
 
-use ground::wide;
-use mail::{Hand, of_object, room_of};
-use numbers::{ALL_PLACES, OBJECTS, TIMERS};
+use mail::{Hand, Ring, entry_of};
+use numbers::{OBJECTS, TIMERS};
+
+// A timer of object `owner`, which sends it the signal `alarm`. The counter has the ticks that are left, 0 where it is not armed; the
+// interval is the next counter, 0 where it fires once.
+#[repr(C)]
+#[derive(Clone, Copy, Debug, PartialEq, Eq)]
+pub struct Timer {
+    pub owner: u8,
+    pub alarm: u8,
+    pub counter: u16,
+    pub interval: u16,
+}
 
 // How many timers have fired in a TICK, and how many were late.
-#[derive(Clone, Copy)]
+#[derive(Clone, Copy, Debug, PartialEq, Eq)]
 pub struct Ticks {
     pub fired: u8,
     pub late: u8,
 }
 
-fn one_fired(ticks: Ticks) -> Ticks
-    requires { ticks.fired < 255 }
-    ensures { (result.fired ≡ ticks.fired + 1) × (result.late ≡ ticks.late) }
-{
-    let late = ticks.late;
-    Ticks {
-        fired: ticks.fired + 1,
-        late,
-    }
-}
-
-fn one_late(ticks: Ticks) -> Ticks
-    requires { ticks.late < 255 }
-    ensures { (result.fired ≡ ticks.fired) × (result.late ≡ ticks.late + 1) }
-{
-    let fired = ticks.fired;
-    Ticks {
-        fired,
-        late: ticks.late + 1,
-    }
-}
-
-// An entry with timer t and signal g goes to the back of p's mailbox, which has room.
-fn fire(
-    places: &mut [u16; ALL_PLACES],
-    heads: &[u8; OBJECTS],
-    counts: &mut [u8; OBJECTS],
-    t: usize,
-    p: usize,
-    g: u8,
-)
-    requires mail { Mail places.old heads.now counts.old }
-    requires t_lt_timers { (t < timers) × (1 ≤ p) × (p ≤ objects) × (get_or counts.old (p - 1) 0 < room) }
-    ensures { Holds places.new heads.now counts.new
-        (push_back (boxes places.old heads.now counts.old) (p - 1) (entry_of (Timer t g))) }
-{
-    let e = mail::entry_of(Hand::Timer(t as u8, g));
-    mail::push_back(places, heads, counts, p - 1, e);
-}
-
 // The turn of timer t. Counter above 1: less one. At 1 with room: it fires, and the counter becomes the interval. Without room: late.
 fn tick_timer(
-    places: &mut [u16; ALL_PLACES],
-    heads: &[u8; OBJECTS],
-    counts: &mut [u8; OBJECTS],
-    counters: &mut [u16; TIMERS],
+    timers: &mut [Timer; TIMERS],
+    mail: &mut [Ring; OBJECTS],
     depths: &[u8; OBJECTS],
-    owners: &[u8; TIMERS],
-    alarms: &[u8; TIMERS],
-    intervals: &[u16; TIMERS],
     t: usize,
-    ticks: Ticks,
-) -> Ticks
-    requires ready { Ready places.old heads.now counts.old counters.old depths.now owners.now alarms.now intervals.now }
-    requires t_lt_timers { (t < timers) × (ticks.fired ≤ t) × (ticks.late ≤ t) }
-    ensures ready_2 { Ready places.new heads.now counts.new counters.new
-        depths.now owners.now alarms.now intervals.now }
-    ensures fired_bound { (result.fired ≤ t + 1) × (result.late ≤ t + 1) }
-    ensures late_after { (s : State) →
-        ticked (timing places.new heads.now counts.new counters.new
-        depths.now owners.now alarms.now intervals.now s) result.fired result.late
-        ≡ tick_timer t (ticked (timing places.old heads.now counts.old counters.old
-        depths.now owners.now alarms.now intervals.now s) ticks.fired ticks.late) }
+    ticks: &mut Ticks,
+)
+    requires ready { Ready timers.old depths.now }
+    requires few { (t < TIMERS) × (ticks.old.fired ≤ t) × (ticks.old.late ≤ t) }
+    ensures still_ready { Ready timers.new depths.now }
+    ensures still_few { (ticks.new.fired ≤ t + 1) × (ticks.new.late ≤ t + 1) }
+    ensures turned { (s : State) →
+        ticked (timing timers.new mail.new depths.now s) ticks.new.fired ticks.new.late
+        ≡ machine.tick_timer t (ticked (timing timers.old mail.old depths.now s) ticks.old.fired ticks.old.late) }
 {
-    let left = counters[t];
-    if left == 0 {
-        return ticks;
+    let timer = timers[t];
+    if timer.counter == 0 {
+        return;
     }
-    if 1 < left {
-        counters[t] = left - 1;
-        return ticks;
+    if 1 < timer.counter {
+        timers[t].counter = timer.counter - 1;
+        return;
     }
-    let p = wide(owners[t]);
-    if room_of(of_object(depths, p), of_object(counts, p)) == 0 {
-        return one_late(ticks);
+    let q = usize::from(timer.owner) - 1;
+    if usize::from(depths[q]) <= mail[q].len() {
+        ticks.late += 1;
+        return;
     }
-    fire(places, heads, counts, t, p, alarms[t]);
-    counters[t] = intervals[t];
-    one_fired(ticks)
+    mail[q].push_back(entry_of(Hand::Timer(t as u8, timer.alarm)));
+    timers[t].counter = timer.interval;
+    ticks.fired += 1;
 }
 
 // The timers by ascending number.
 pub fn tick_all(
-    places: &mut [u16; ALL_PLACES],
-    heads: &[u8; OBJECTS],
-    counts: &mut [u8; OBJECTS],
-    counters: &mut [u16; TIMERS],
+    timers: &mut [Timer; TIMERS],
+    mail: &mut [Ring; OBJECTS],
     depths: &[u8; OBJECTS],
-    owners: &[u8; TIMERS],
-    alarms: &[u8; TIMERS],
-    intervals: &[u16; TIMERS],
 ) -> Ticks
-    requires { Ready places.old heads.now counts.old counters.old depths.now owners.now alarms.now intervals.now }
+    requires { Ready timers.old depths.now }
     ensures { (s : State) →
-        ticked (timing places.new heads.now counts.new counters.new
-        depths.now owners.now alarms.now intervals.now s) result.fired result.late
-        ≡ tick_all (timing places.old heads.now counts.old counters.old
-        depths.now owners.now alarms.now intervals.now s) }
+        ticked (timing timers.new mail.new depths.now s) result.fired result.late
+        ≡ machine.tick_all (timing timers.old mail.old depths.now s) }
 {
     let mut ticks = Ticks { fired: 0, late: 0 };
-    let mut t: usize = 0;
-    while t < TIMERS {
-        ticks = tick_timer(
-            places, heads, counts, counters, depths, owners, alarms, intervals, t, ticks,
-        );
-        t += 1;
+    for t in 0..TIMERS {
+        tick_timer(timers, mail, depths, t, &mut ticks);
     }
     ticks
 }

@@ -10,12 +10,12 @@ use std::rt::Files;
 
 // Plays the next trace, and answers whether there was one.
 fn play_next(rt: &(impl Files + Print), input: &mut impl Read) -> io::Result<bool> {
-    let mut header = [0u8; 3];
-    if !input::read_exactly(input, &mut header, 3)? {
+    let Some(header) = input::read_array::<3>(input)? else {
         return Ok(false);
-    }
-    let most = input::low_byte_first(header[1], header[2]) as u64;
-    player::play(rt, input, most, header[0], Replies::Plain)?;
+    };
+    let length = u16::from_le_bytes([header[1], header[2]]);
+    let mut trace = input.by_ref().take(u64::from(length));
+    player::play(rt, &mut trace, header[0], Replies::Plain)?;
     Ok(true)
 }
 

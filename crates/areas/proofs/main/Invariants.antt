@@ -3,4 +3,4 @@ use Rattle.state.specs.View.{Good}
 use Rattle.areas.proofs.main.Given as goal
 
 abbrev pub invariant-loop : goal.invariant-loop
-invariant-loop l = Good l.run.kernel
+invariant-loop l = Good l.k

@@ -7,7 +7,7 @@ returns-then-sound c =
     let from = c.args in
     λ is_up. sym (one-taken is_up from.table.now from.at _ (row_cut from.table.now from.at) (sym c.sound.ensures ∙ c.if-sound.true))
 
-pub returns : goal.returns
-returns c =
+pub returns-else-sound : goal.returns-else-sound
+returns-else-sound c =
     let from = c.args in
     λ is_up. sym (one-unsound is_up from.table.now from.at _ (row_cut from.table.now from.at) (sym c.sound.ensures ∙ c.if-sound.false))

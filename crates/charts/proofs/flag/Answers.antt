@@ -1,45 +1,40 @@
-use borrow.Author.Rules.{rules}
-use mathlib.Core.Path.{◌≡◌, refl, ◌∙◌}
-use Prim.Native.Nat.{◌≤◌}
+use mathlib.Core.Path.{◌≡◌, refl, sym, ◌∙◌}
+use Prim.Native.Nat.{◌≤◌, ◌<◌}
+use native.Mathlib.Omega.{arith}
+use lib.Dec.{eqb}
+use Rattle.bits.specs.Members.{width}
 use Rattle.chart.specs.Numbers.{most_flag}
 use Rattle.chart.specs.declared.read.Edition.TheVariants.{Guarded}
-use Rattle.machine.specs.Charts.{flag, flag_tests}
+use Rattle.machine.proofs.Tests.{none_holds, within_low, within_high}
+use Rattle.machine.specs.Charts.{flag, flag_changes, flag_set, flag_tests}
+use Rattle.mail.specs.Box.{one}
 use Rattle.machine.specs.Numbers.{objects}
-use Rattle.machine.specs.Reply.{lowest}
-use Rattle.state.proofs.Arrays.{depths_length}
-use Rattle.state.specs.View.{answered, state_of}
-use Rattle.state.proofs.Glue.{refusal, doing}
-use Rattle.charts.proofs.Slots.{flag_tests_lem, flag_allowed}
+use Rattle.state.specs.View.{told, state_of}
+use Rattle.state.proofs.Glue.{refused, doing}
+use Rattle.charts.proofs.Slots.{flag-changed}
 use Rattle.charts.proofs.flag.Goals as goal
-use Rattle.charts.proofs.flag.Goals.{After-flag_refusal-no}
+use Rattle.charts.proofs.flag.Goals.{In_ok-flag_refusal}
 
-module _ (c : After-flag_refusal-no) where
-  tests_are : c.flag_refusal-no.result ≡ lowest (flag_tests c.args.spoilt c.args.p c.args.f c.args.v (state_of c.args.k))
-  tests_are =
-      c.flag_refusal-no.ensures
-      ∙ flag_tests_lem c.args.k c.args.spoilt c.args.p c.args.f c.args.v 0 _ _
-      c.is_open.ensures
-      c.of_object-started.ensures.0
+pub returns-in_err-flag_refusal : goal.returns-in_err-flag_refusal
+unfolding flag flag_tests
+returns-in_err-flag_refusal c = λ z.
+    refused c.args.k.now z _ _ _ _ c.from_residual.ensures.1 (c.in_err-flag_refusal.ensures ∙ rw (c.is_open.ensures, c.is_started.ensures) refl)
 
-  allowed : c.flag_refusal-no.result ≡ 0 → (c.args.p ≤ objects) × (1 ≤ c.args.f) × (c.args.f ≤ most_flag Guarded)
-  allowed z = flag_allowed c.args.k c.args.spoilt c.args.p c.args.f c.args.v _ tests_are z
+bounds : (c : In_ok-flag_refusal) → (c.args.p < width) × (1 ≤ c.args.f) × (c.args.f ≤ most_flag Guarded)
+bounds c =
+    let n = none_holds _ refl (sym c.in_ok-flag_refusal.ensures) in
+    (let h = within_high 1 objects _ n.1.0 in omega arith, within_low 1 (most_flag Guarded) _ n.1.1.0, within_high 1 (most_flag Guarded) _ n.1.1.0)
 
--- among the kernel's fields the search does not reach this length
-pub slice_bounds-of_object-end : goal.slice_bounds-of_object-end
-slice_bounds-of_object-end c = search (rules, depths_length c.args.k _ c.well_formed.0)
+pub is_up-requires : goal.is_up-requires
+is_up-requires c = bounds (goal.at.is_up-requires c).In_ok-flag_refusal
 
-pub returns-then-no-ne0 : goal.returns-then-no-ne0
-unfolding flag
-returns-then-no-ne0 c = λ z. refusal _ _ _ _ z _ (tests_are (goal.at.returns-then-no-ne0 c).After-flag_refusal-no) c.if-no-ne0.true c.refuse.ensures
-
-pub with_flag-requires : goal.with_flag-requires
-with_flag-requires c = allowed (goal.at.with_flag-requires c).After-flag_refusal-no c.if-no-ne0.false
-
-pub flag_changes-requires : goal.flag_changes-requires
-flag_changes-requires c = allowed (goal.at.flag_changes-requires c).After-flag_refusal-no c.if-no-ne0.false
+pub set-requires : goal.set-requires
+set-requires c = bounds (goal.at.set-requires c).In_ok-flag_refusal
 
 pub returns : goal.returns
-unfolding flag answered
+unfolding flag flag_tests flag_changes flag_set told state_of
 returns c = λ z.
-    doing _ _ _ _ z _ (tests_are (goal.at.returns c).After-flag_refusal-no) c.if-no-ne0.false
-    (rw (c.with_flag.ensures, c.done.ensures, ← c.flag_changes.ensures, c.one.ensures.0) refl)
+    let s = state_of c.args.k.now in
+    let changes : c.from.result ≡ one (flag_changes s c.args.p c.args.f c.args.v) = c.from.ensures ∙ rw c.is_up.ensures (flag-changed (s.flags c.args.p c.args.f) (eqb c.args.v 1)) in
+    doing c.args.k.now z _ _ _ _ (c.in_ok-flag_refusal.ensures ∙ rw (c.is_open.ensures, c.is_started.ensures) refl)
+    (rw (c.done.ensures, changes, c.set.ensures) refl)

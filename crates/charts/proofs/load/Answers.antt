@@ -1,69 +1,60 @@
-use mathlib.Core.Path.{◌≡◌, refl, sym, ◌∙◌}
-use Prim.Native.Nat.{◌<◌}
+use borrow.Author.Tests.{eq-eqb, eqb-true, not-false}
+use mathlib.Core.Bool.{false, not}
+use mathlib.Core.Path.{◌≡◌, refl, sym, ap, ◌∙◌}
+use Prim.Native.Nat.{◌<◌, ◌-◌}
 use native.Mathlib.Omega.{arith}
+use lib.Dec.{eqb}
 use lib.ListN.{length}
-use Rattle.chart.proofs.Accepted.{accepted, at_most, class_most}
+use Rattle.chart.proofs.Accepted.{accepted, at_most}
 use Rattle.chart.specs.Chart.{states}
-use Rattle.machine.proofs.Tests.{fault_none, fault_some}
+use Rattle.machine.proofs.Tests.{fault_none, none_holds, within_high}
 use Rattle.machine.specs.Charts.{load, load_tests}
 use Rattle.machine.specs.Numbers.{slots, edition_of, guarded_slot, table_bytes, guarded_bytes}
-use Rattle.machine.specs.Reply.{BothTables, both, lowest}
-use Rattle.state.specs.View.{areas, answered, state_of}
-use Rattle.state.proofs.Glue.{refusal, writing}
-use Rattle.charts.proofs.Slots.{load_tests_lem, load_allowed}
+use Rattle.state.proofs.Glue.{writing}
+use Rattle.state.specs.View.{areas, told, state_of}
+use Rattle.charts.proofs.Slots.{load_faulty, load_refused}
 use Rattle.charts.proofs.load.Goals as goal
-use Rattle.charts.proofs.load.Goals.{After-load_refusal-no}
+use Rattle.charts.proofs.load.Goals.{In_ok-load_refusal}
 
-module _ (c : After-load_refusal-no) where
-  abbrev lent : BothTables
-  lent = both c.args.tables.now c.args.guarded.now
+pub returns-in_err-load_refusal : goal.returns-in_err-load_refusal
+unfolding load load_tests
+returns-in_err-load_refusal c = λ p l.
+    load_refused c.args.k.now (areas p _ _ l) _ _ _ _ c.from_residual.ensures.1
+    (c.in_err-load_refusal.ensures ∙ rw (c.slot_bad.ensures, c.is_open.ensures, c.slot_used.ensures) refl)
 
-  tests_are : c.load_refusal-no.result ≡ lowest (load_tests c.args.spoilt c.args.q (state_of c.args.k) lent)
-  tests_are =
-      c.load_refusal-no.ensures
-      ∙ load_tests_lem c.args.k c.args.spoilt c.args.q 0 lent _ _ _
-      c.slot_bad-bad_slot.ensures
-      c.is_open.ensures
-      c.slot_used.ensures
+allowed : (c : In_ok-load_refusal) →
+    (c.args.q < slots) × (length c.args.tables.now ≡ table_bytes) × (c.args.q ≡ guarded_slot → length c.args.guarded.now ≡ guarded_bytes)
+allowed c =
+    let n = none_holds _ refl (sym c.in_ok-load_refusal.ensures) in (
+      let h = within_high 0 (slots - 1) _ n.1.1.1.0 in omega arith,
+      eqb-true _ _ (not-false _ n.1.0),
+      λ f. let b : not (eqb (length c.args.guarded.now) guarded_bytes) ≡ false = rw (eq-eqb c.args.q guarded_slot f) at (sym c.slot_bad.ensures ∙ n.1.1.0) in eqb-true _ _ (not-false _ b),
+    )
 
-  allowed : c.load_refusal-no.result ≡ 0 →
-      (c.args.q < slots) × (length c.args.tables.now ≡ table_bytes) × (c.args.q ≡ guarded_slot → length c.args.guarded.now ≡ guarded_bytes)
-  allowed z = load_allowed c.args.k c.args.spoilt c.args.q _ lent tests_are z
+pub fill_slot-requires : goal.fill_slot-requires
+fill_slot-requires c = allowed (goal.at.fill_slot-requires c).In_ok-load_refusal
 
-pub returns-then-no-ne0 : goal.returns-then-no-ne0
-unfolding load
-returns-then-no-ne0 c = λ p l. refusal _ _ _ _ (areas p _ _ l) _ (tests_are (goal.at.returns-then-no-ne0 c).After-load_refusal-no) c.if-no-ne0.true c.refuse.ensures
+pub returns-in_err-fill_slot : goal.returns-in_err-fill_slot
+unfolding load load_tests
+returns-in_err-fill_slot c = λ p l.
+    let f = c.in_err-fill_slot.ensures in
+    load_faulty c.args.k.now (areas p _ _ l) _ _ _ _ _ c.from_residual-in_err-fill_slot.ensures.1
+    (c.in_ok-load_refusal.ensures ∙ rw (c.slot_bad.ensures, c.is_open.ensures, c.slot_used.ensures) refl) f.class
+    (areas p _ _ l) (ap (λ t. record { payloads = p; tables = t; log = l }) f.err)
 
-pub fill_slot-class-requires : goal.fill_slot-class-requires
-fill_slot-class-requires c = allowed (goal.at.fill_slot-class-requires c).After-load_refusal-no c.if-no-ne0.false
-
-pub overflow_cast-class : goal.overflow_cast-class
-overflow_cast-class c =
-    let f = c.fill_slot-class.ensures in
-    let a = c.args in
-    omega (arith, f.value, class_most (edition_of a.q) a.chart.now)
-
-pub returns-then-class-ne0 : goal.returns-then-class-ne0
-unfolding load answered
-returns-then-class-ne0 c = λ p l.
-    let f = c.fill_slot-class.ensures in
-    let bad = c.if-class-ne0.true in
-    writing _ _ _ _ (areas p _ _ l) _ (tests_are (goal.at.returns-then-class-ne0 c).After-load_refusal-no) (areas p _ _ l) c.if-no-ne0.false
-    (rw (fault_some _ _ _ _ (λ e. bad (f.value ∙ e)), c.bad_chart.ensures, f.value, f.guarded_unchanged bad) refl)
-
-pub with_chart-requires : goal.with_chart-requires
-with_chart-requires c = (allowed (goal.at.with_chart-requires c).After-load_refusal-no c.if-no-ne0.false).0
+pub bounds-k-q : goal.bounds-k-q
+bounds-k-q c = (allowed (goal.at.bounds-k-q c).In_ok-load_refusal).0
 
 pub overflow_cast-state_count : goal.overflow_cast-state_count
 overflow_cast-state_count c =
-    let class = c.fill_slot-class.ensures.value in
     let a = c.args in
-    omega (arith, c.state_count.ensures, at_most (edition_of a.q) (states a.chart.now) a.chart.now (accepted (edition_of a.q) a.chart.now (sym class ∙ c.if-class-ne0.false)).forms)
+    let e = edition_of a.q in
+    omega (arith, c.state_count.ensures, at_most e (states a.chart.now) a.chart.now (accepted e a.chart.now (sym c.in_ok-fill_slot.ensures.class)).forms)
 
 pub returns : goal.returns
-unfolding load answered
+unfolding load load_tests told state_of
 returns c = λ p l.
-    let f = c.fill_slot-class.ensures in
-    let good = c.if-class-ne0.false in
-    writing _ _ _ _ (areas p _ _ l) _ (tests_are (goal.at.returns c).After-load_refusal-no) (areas p _ _ l) c.if-no-ne0.false
-    (rw (fault_none _ _ _ _ (sym f.value ∙ good), c.with_chart.ensures, c.done.ensures, c.state_count.ensures, f.guarded_after good) refl)
+    let f = c.in_ok-fill_slot.ensures in
+    writing c.args.k.now (areas p _ _ l) _ _ _ _ (areas p _ _ l)
+    (c.in_ok-load_refusal.ensures ∙ rw (c.slot_bad.ensures, c.is_open.ensures, c.slot_used.ensures) refl)
+    (rw (fault_none _ _ _ _ (sym f.class), c.done.ensures, c.state_count.ensures, f.ok) refl)

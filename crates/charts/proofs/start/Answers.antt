@@ -1,78 +1,61 @@
-use borrow.Author.Rules.{rules}
-use mathlib.Core.Path.{◌≡◌, refl, ap, ◌∙◌}
+use borrow.Author.Tests.{not-false}
+use mathlib.Core.Path.{refl, sym, ◌∙◌}
+use Prim.Native.Nat.{◌≤◌, ◌<◌, ◌-◌}
 use native.Mathlib.Omega.{arith}
-use Rattle.chart.proofs.Theorems.{row_of_answer}
+use Rattle.ground.specs.Bools.{and_left}
+use Rattle.chart.proofs.Theorems.{Sound, row_of_answer, sound-is}
 use Rattle.chart.specs.Flat.{answer_of, start_sound}
-use Rattle.machine.specs.Charts.{start, start_row, start_tests}
-use Rattle.machine.specs.Numbers.{edition_of}
-use Rattle.machine.specs.Reply.{BothTables, both, lowest}
-use Rattle.state.proofs.Arrays.{depths_length}
-use Rattle.state.specs.View.{areas, answered, state_of}
-use Rattle.state.proofs.Glue.{refusal, doing}
-use Rattle.charts.proofs.Slots.{Startable, start_tests_lem, startable}
+use Rattle.mail.specs.Box.{room}
+use Rattle.machine.proofs.Tests.{none_holds, within_low, within_high}
+use Rattle.machine.specs.Charts.{start, start_tests}
+use Rattle.machine.specs.Numbers.{objects, slots}
+use Rattle.state.proofs.Glue.{refused, doing}
+use Rattle.state.specs.View.{areas, told}
 use Rattle.charts.proofs.start.Goals as goal
-use Rattle.charts.proofs.start.Goals.{After-start_refusal-no}
+use Rattle.charts.proofs.start.Goals.{In_ok-start_refusal}
 
-module _ (c : After-start_refusal-no) where
-  abbrev lent : BothTables
-  lent = both c.args.tables.now c.args.guarded.now
+pub returns-in_err-start_refusal : goal.returns-in_err-start_refusal
+unfolding start start_tests
+returns-in_err-start_refusal c = λ x l.
+    refused c.args.k.now (areas x _ _ l) _ _ _ _ c.from_residual.ensures.1
+    (c.in_err-start_refusal.ensures ∙ rw (c.slot_bad.ensures, c.is_open.ensures, c.is_loaded.ensures, c.is_started.ensures, c.start_sound.ensures, c.edition_of.ensures, c.start_row-row.ensures) refl)
 
-  row_is : c.start_row-row.result.now ≡ start_row lent c.args.q
-  row_is = c.start_row-row.ensures
+-- that no test holds: the numbers, and what a row has that may be a start row
+module _ (c : In_ok-start_refusal) where
+  numbers : (1 ≤ c.args.p) × (c.args.p ≤ objects) × (c.args.q < slots) × (c.args.depth ≤ room)
+  numbers =
+      let n = none_holds _ refl (sym c.in_ok-start_refusal.ensures) in (
+        within_low 1 objects _ n.1.1.1.0,
+        within_high 1 objects _ n.1.1.1.0,
+        let h = within_high 0 (slots - 1) _ n.1.1.1.1.0 in omega arith,
+        within_high 1 room _ n.1.1.1.1.1.0,
+      )
 
-  tested : c.start_sound.result ≡ start_sound (edition_of c.args.q) (start_row lent c.args.q)
-  tested =
-      c.start_sound.ensures
-      ∙ ap (λ e. start_sound e c.start_row-row.result.now) c.edition_of.ensures
-      ∙ ap (start_sound (edition_of c.args.q)) row_is
-
-  tests_are : c.start_refusal-no.result
-      ≡ lowest (start_tests c.args.spoilt c.args.p c.args.q c.args.depth (state_of c.args.k) lent)
-  tests_are =
-      c.start_refusal-no.ensures
-      ∙ start_tests_lem c.args.k c.args.spoilt c.args.p c.args.q c.args.depth 0 lent _ _ _ _ _
-      c.slot_bad.ensures
-      c.is_open.ensures
-      c.is_loaded.ensures
-      c.of_object.ensures.0
-      tested
-
-  allowed : c.start_refusal-no.result ≡ 0 → Startable c.args.p c.args.q c.args.depth c.start_row-row.result.now
-  allowed z = startable c.args.k c.args.spoilt c.args.p c.args.q c.args.depth _ lent _ row_is tests_are z
-
--- among the kernel's fields the search does not reach this length
-pub slice_bounds-of_object-end : goal.slice_bounds-of_object-end
-slice_bounds-of_object-end c =
-    search (rules, depths_length c.args.k _ c.well_formed.0)
-
-pub returns-then-no-ne0 : goal.returns-then-no-ne0
-unfolding start
-returns-then-no-ne0 c = λ x l. refusal _ _ _ _ (areas x _ _ l) _ (tests_are (goal.at.returns-then-no-ne0 c).After-start_refusal-no) c.if-no-ne0.true c.refuse.ensures
+  row : Sound c.edition_of.result c.start_row-row.result.now
+  unfolding start_sound
+  row =
+      let n = none_holds _ refl (sym c.in_ok-start_refusal.ensures) in
+      sound-is _ _ (and_left _ _ (sym c.start_sound.ensures ∙ not-false _ n.1.1.1.1.1.1.1.1.1.0))
 
 pub bounds-row-0 : goal.bounds-row-0
-bounds-row-0 c =
-    let h = allowed (goal.at.bounds-row-0 c).After-start_refusal-no c.if-no-ne0.false in
-    omega (arith, h.sound.whole)
+bounds-row-0 c = let w = row (goal.at.bounds-row-0 c).In_ok-start_refusal in omega (arith, w.whole)
 
-pub started_at-requires : goal.started_at-requires
-started_at-requires c =
-    let h = allowed (goal.at.started_at-requires c).After-start_refusal-no c.if-no-ne0.false in
-    (h.low, h.high, h.slot, h.deep)
+pub start_object-requires : goal.start_object-requires
+start_object-requires c = numbers (goal.at.start_object-requires c).In_ok-start_refusal
 
 pub overflow_cast-p : goal.overflow_cast-p
-overflow_cast-p c =
-    let h = allowed (goal.at.overflow_cast-p c).After-start_refusal-no c.if-no-ne0.false in
-    omega (arith, h.high)
+overflow_cast-p c = let h = numbers (goal.at.overflow_cast-p c).In_ok-start_refusal in omega arith
 
 pub ran-requires : goal.ran-requires
 ran-requires c =
-    let h = allowed (goal.at.ran-requires c).After-start_refusal-no c.if-no-ne0.false in
-    record { row_len = (h.sound.whole, h.sound.outcome, search rules); row_value = row_of_answer _ _ h.sound }
+    let w = row (goal.at.ran-requires c).In_ok-start_refusal in record {
+      row_len = (w.whole, w.outcome, omega arith);
+      row_value = row_of_answer _ _ w;
+    }
 
 pub returns : goal.returns
-unfolding start answered answer_of
-returns c =
-    let after_start_refusal_no = (goal.at.returns c).After-start_refusal-no in
-    λ x l.
-    doing _ _ _ _ (areas x _ _ l) _ (tests_are after_start_refusal_no) c.if-no-ne0.false
-    (rw (c.started_at.ensures, c.ran.ensures, row_is after_start_refusal_no) refl)
+unfolding start start_tests told answer_of
+returns c = λ x l.
+    doing c.args.k.now (areas x _ _ l) _ _ _ _
+    (c.in_ok-start_refusal.ensures ∙ rw (c.slot_bad.ensures, c.is_open.ensures, c.is_loaded.ensures, c.is_started.ensures, c.start_sound.ensures, c.edition_of.ensures, c.start_row-row.ensures) refl)
+    (rw (c.start_object.ensures, c.ran.ensures, c.start_row-row.ensures) refl)

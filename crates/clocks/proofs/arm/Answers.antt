@@ -1,43 +1,36 @@
 use mathlib.Core.Path.{◌≡◌, refl, ◌∙◌}
 use Prim.Native.Nat.{◌<◌, ◌≤◌}
 use native.Mathlib.Omega.{arith}
-use Rattle.machine.specs.Clocks.{arm, arm_tests}
+use Rattle.machine.specs.Clocks.{arm, arm_tests, armed_with}
 use Rattle.machine.specs.Numbers.{objects, timers}
 use Rattle.machine.specs.Reply.{lowest}
-use Rattle.state.specs.View.{answered, state_of}
-use Rattle.clocks.proofs.Timers.{arm_tests_lem, arm_allowed}
-use Rattle.state.proofs.Glue.{refusal, doing}
+use Rattle.state.specs.View.{told, state_of}
+use Rattle.state.proofs.Glue.{refused, doing}
+use Rattle.tick.specs.Timers.{timers_set}
+use Rattle.clocks.proofs.Timers.{arm_allowed}
 use Rattle.clocks.proofs.arm.Goals as goal
-use Rattle.clocks.proofs.arm.Goals.{After-arm_refusal-no, Else-no-ne0}
+use Rattle.clocks.proofs.arm.Goals.{In_ok-arm_refusal}
 
-tests_are : (c : After-arm_refusal-no) →
-    let a = c.args in
-    c.arm_refusal-no.result ≡ lowest (arm_tests a.spoilt a.t a.p a.g a.ticks (state_of a.k))
-tests_are c =
-    let a = c.args in
-    c.arm_refusal-no.ensures
-    ∙ arm_tests_lem a.spoilt a.t a.p a.g a.ticks a.k _ _ c.of_object-started.ensures.0 c.counter_of-armed.ensures
+pub returns-in_err-arm_refusal : goal.returns-in_err-arm_refusal
+unfolding arm arm_tests
+returns-in_err-arm_refusal c = λ z. refused _ z _ _ _ _ c.from_residual.ensures.1 (c.in_err-arm_refusal.ensures ∙ rw (c.from.ensures, c.from-2.ensures, c.is_started.ensures, c.is_armed.ensures) refl)
 
-allowed : (c : Else-no-ne0) → let a = c.args in (a.t < timers) × (a.p ≤ objects)
-allowed c =
-    let a = c.args in
-    arm_allowed a.spoilt a.t a.p a.g a.ticks (state_of a.k) (rw (← tests_are c.before) c.if-no-ne0.false)
+none_holds : (c : In_ok-arm_refusal) → let a = c.args in 0 ≡ lowest (arm_tests a.spoilt a.t a.p a.g a.ticks (state_of a.k.now))
+unfolding arm_tests
+none_holds c = c.in_ok-arm_refusal.ensures ∙ rw (c.from.ensures, c.from-2.ensures, c.is_started.ensures, c.is_armed.ensures) refl
 
-pub counter_of-armed-requires : goal.counter_of-armed-requires
-unfolding state_of
-counter_of-armed-requires c = c.requires.timers.counters_length
+allowed : (c : In_ok-arm_refusal) → (c.args.t < timers) × (c.args.p ≤ objects)
+allowed c = arm_allowed _ _ _ _ _ _ (none_holds c)
 
-pub returns-then-no-ne0 : goal.returns-then-no-ne0
-unfolding arm
-returns-then-no-ne0 c = λ z. refusal _ _ _ _ z _ (tests_are (goal.at.returns-then-no-ne0 c).After-arm_refusal-no) c.if-no-ne0.true c.refuse.ensures
+pub overflow_cast-k : goal.overflow_cast-k
+overflow_cast-k c = let h = allowed (goal.at.overflow_cast-k c).In_ok-arm_refusal in omega (arith, h.1)
 
-pub overflow_cast-p : goal.overflow_cast-p
-overflow_cast-p c = let h = allowed (goal.at.overflow_cast-p c).Else-no-ne0 in omega (arith, h.1)
+pub offset_bounds-k-t : goal.offset_bounds-k-t
+offset_bounds-k-t c = let h = allowed (goal.at.offset_bounds-k-t c).In_ok-arm_refusal in omega (arith, h.0)
 
-pub arm_timer-requires : goal.arm_timer-requires
-arm_timer-requires c = (allowed (goal.at.arm_timer-requires c).Else-no-ne0).0
+pub bounds-k-t : goal.bounds-k-t
+bounds-k-t c = (allowed (goal.at.bounds-k-t c).In_ok-arm_refusal).0
 
 pub returns : goal.returns
-unfolding arm answered
-returns c =
-    λ z. doing _ _ _ _ z _ (tests_are (goal.at.returns c).After-arm_refusal-no) c.if-no-ne0.false (rw (c.arm_timer.ensures, c.done.ensures) refl)
+unfolding arm told state_of armed_with
+returns c = λ z. doing _ z _ _ _ _ (none_holds (goal.at.returns c).In_ok-arm_refusal) (rw (timers_set, c.done.ensures) refl)

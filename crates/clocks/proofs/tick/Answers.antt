@@ -1,25 +1,19 @@
 use mathlib.Core.Path.{refl}
-use native.Mathlib.Omega.{arith}
 use Rattle.machine.specs.Clocks.{tick}
 use Rattle.machine.specs.Reply.{lowest}
 use Rattle.tick.specs.Timing.{timing}
 use Rattle.state.specs.View.{state_of}
-use Rattle.state.proofs.Arrays.{mail_of}
-use Rattle.state.proofs.Glue.{refusal, doing}
+use Rattle.state.proofs.Glue.{refused, doing}
 use Rattle.clocks.proofs.Timers.{ready_of, tick_answers}
 use Rattle.clocks.proofs.tick.Goals as goal
 
-pub returns-then-spoilt : goal.returns-then-spoilt
+pub returns-in_err-refuse_if : goal.returns-in_err-refuse_if
 unfolding tick lowest
-returns-then-spoilt c = λ z. refusal _ _ 1 _ z _ (rw c.if-spoilt.true refl) (λ e. omega arith) c.refuse.ensures
+returns-in_err-refuse_if c = λ z. refused _ z _ _ _ _ c.from_residual.ensures.1 (rw (c.in_err-refuse_if.ensures.0, c.in_err-refuse_if.ensures.1) refl)
 
 pub tick_all-ticks-requires : goal.tick_all-ticks-requires
-tick_all-ticks-requires c =
-    ready_of c.args.k (mail_of c.args.k _ c.well_formed.0) c.requires
+tick_all-ticks-requires c = ready_of c.args.k.now c.requires
 
 pub returns : goal.returns
 unfolding tick lowest timing state_of
-returns c =
-    let k = c.args.k in
-    λ z. doing _ _ 0 _ z _ (rw c.if-spoilt.false refl) refl
-    (tick_answers _ z _ _ _ _ refl c.done.ensures (c.tick_all-ticks.ensures (state_of k)))
+returns c = λ z. doing _ z _ _ _ _ (rw c.in_ok-refuse_if.ensures refl) (tick_answers _ _ z _ _ _ _ refl c.done.ensures (c.tick_all-ticks.ensures (state_of c.args.k.now)))

@@ -18,11 +18,3 @@ returns-in-Taken c =
     let at = c.in-Taken.at in
     let z : at + 0 ≡ at = omega arith in
     rw c.in-Taken.is (sym (get_or-take row_size (drop at t) 0 0 (omega arith) ∙ get_or-drop at t 0 0 ∙ rw z refl))
-
-pub returns-in-Ignored : goal.returns-in-Ignored
-unfolding answer_at
-returns-in-Ignored c = rw c.in-Ignored.is refl
-
-pub returns-in-Unsound : goal.returns-in-Unsound
-unfolding answer_at
-returns-in-Unsound c = rw c.in-Unsound.is refl

@@ -1,61 +1,62 @@
+use borrow.Author.Tests.{eqb-true, eqb-false}
 use mathlib.Core.Path.{◌≡◌, refl, sym, ◌∙◌}
 use Prim.Native.Nat.{◌-◌}
 use native.Mathlib.Omega.{arith}
-use Rattle.chart.specs.Flags.{in_words}
 use Rattle.machine.proofs.Run.{run_stop}
-use Rattle.machine.specs.Reply.{both}
-use Rattle.machine.specs.Run.{seen}
-use Rattle.mail.specs.View.{boxes, queued_in}
-use Rattle.drain.specs.Lent.{run_at}
-use Rattle.drain.proofs.Laws.{above_all, above_empty, none_is, none_queued}
+use Rattle.mail.specs.View.{boxes, boxes_at, boxes-length}
+use Rattle.drain.specs.Lent.{flags_of, run_at, seen_of, tables_of}
+use Rattle.drain.proofs.Laws.{above_all, above_below, none_is, none_queued}
 use Rattle.drain.proofs.run.Goals as goal
 
 pub loop-p-init : goal.loop-p-init
 loop-p-init c =
-    let a = c.args in
-    let z : a.budget - 0 ≡ a.budget = omega arith in
-    (omega arith, omega arith, c.requires.sized.0, c.requires.fit_run, rw (← c.requires.sized.0.counts) (above_all a.places.now a.heads.now a.counts.now), rw z refl)
+    let z : c.args.budget - 0 ≡ c.args.budget = omega arith in
+    record {
+      within = omega arith;
+      sized = c.requires.sized.0;
+      fit = c.requires.fit_run;
+      above = above_all (boxes c.args.mail.now) 16 (omega (arith, boxes-length c.args.mail.now, c.told-mail));
+      same = rw z refl;
+    }
 
 pub turn-n-requires : goal.turn-n-requires
 turn-n-requires c =
     let v = c.loop-p.invariant in
     record {
-      sized = v.2;
+      sized = v.sized;
       long = c.requires.sized.1;
       long_guarded = c.requires.sized.2;
       most = c.requires.sized.3;
-      within = v.1;
+      within = v.within;
       low = c.loop-p-test.true;
-      high = v.0;
-      above = v.4;
-      fit = v.3;
+      high = c.loop-p.auto.p;
+      above = v.above;
+      fit = v.fit;
     }
 
-pub shape_of-log-then-counts-p-ne0 : goal.shape_of-log-then-counts-p-ne0
-shape_of-log-then-counts-p-ne0 c = c.turn-n.ensures.sized.log ∙ sym c.requires.sized.0.log
-
-pub returns-then-counts-p-ne0 : goal.returns-then-counts-p-ne0
-returns-then-counts-p-ne0 c =
+pub returns-then-not-is_empty : goal.returns-then-not-is_empty
+returns-then-not-is_empty c =
     let o = c.turn-n.ensures in
-    (o.sized, sym (o.stretch.ended (λ z. c.if-counts-p-ne0.true (sym (queued_in _ _ _ _) ∙ z))) ∙ o.stretch.same ∙ c.loop-p.invariant.5)
+    let mail = rw (c.is_empty.ensures, ← boxes_at c.turn-n.new.mail (c.loop-p.p - 1)) at c.if-not-is_empty.true in
+    (o.sized, sym (o.ended (eqb-false _ _ mail)) ∙ o.same ∙ c.loop-p.invariant.same)
 
 pub loop-p-preserved : goal.loop-p-preserved
 loop-p-preserved c =
-    let v = c.loop-p.invariant in
     let o = c.turn-n.ensures in
-    (omega arith, o.stretch.within, o.sized, o.stretch.fit, above_empty _ _ _ _ o.stretch.above c.if-counts-p-ne0.false, o.stretch.same ∙ v.5)
-
-pub shape_of-log : goal.shape_of-log
-shape_of-log c = c.loop-p.invariant.2.log ∙ sym c.requires.sized.0.log
+    let none = rw (c.is_empty.ensures, ← boxes_at c.turn-n.new.mail (c.loop-p.p - 1)) at c.if-not-is_empty.false in
+    record {
+      within = o.within;
+      sized = o.sized;
+      fit = o.fit;
+      above = above_below _ _ o.above (eqb-true _ _ none);
+      same = o.same ∙ c.loop-p.invariant.same;
+    }
 
 pub returns : goal.returns
 returns c =
-    let a = c.args in
-    let l = c.loop-p in
-    let x = run_at a.places.now l.heads l.counts l.rests l.times l.log l.n in
-    let flags = in_words a.flags.now in
-    let tables = both a.tables.now a.guarded.now in
-    let z : l.p ≡ 0 = omega (arith, c.loop-p-test.false) in
-    let e = none_is (boxes a.places.now l.heads l.counts) (rw z at l.invariant.4) in
-    let i = none_queued (seen a.gens.now a.signals.now a.seats.now flags x) tables 0 e refl in
-    (l.invariant.2, sym (run_stop a.gens.now a.signals.now a.seats.now flags tables x (a.budget - l.n) (λ y. omega (arith, i))) ∙ l.invariant.5)
+    let f = c.args.fixed in
+    let v = c.loop-p.invariant in
+    let x = run_at (boxes c.loop-p.mail) c.loop-p.rests c.loop-p.times c.loop-p.log c.loop-p.n in
+    let z : c.loop-p.p ≡ 0 = omega (arith, c.loop-p-test.false) in
+    let i = none_queued (seen_of f x) (tables_of f) 0 (none_is x.boxes (rw z at v.above)) refl in
+    (v.sized, sym (run_stop f.gens.now f.signals.now f.seats.now (flags_of f) (tables_of f) x (c.args.budget - c.loop-p.n) (λ y. omega (arith, i))) ∙ v.same)

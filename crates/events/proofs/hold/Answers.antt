@@ -1,40 +1,34 @@
 use borrow.Author.Tests.{leb-false}
-use mathlib.Core.Path.{◌≡◌, refl, ◌∙◌}
+use mathlib.Core.Path.{refl, ◌∙◌}
 use Prim.Native.Nat.{◌<◌}
 use native.Mathlib.Omega.{arith}
 use Rattle.machine.specs.Events.{hold, hold_tests, held}
 use Rattle.machine.specs.Numbers.{blocks, most_holds}
-use Rattle.machine.specs.Reply.{lowest}
-use Rattle.state.specs.View.{answered, state_of}
-use Rattle.state.proofs.Glue.{refusal, doing}
+use Rattle.state.specs.View.{state_of, told}
+use Rattle.state.proofs.Glue.{refused, doing}
 use Rattle.events.proofs.Handles.{handle_allowed}
 use Rattle.events.proofs.hold.Goals as goal
-use Rattle.events.proofs.hold.Goals.{After-handle_refusal-no, Else-no-ne0}
+use Rattle.events.proofs.hold.Goals.{In_ok-handle_refusal}
 
-tests_are : (c : After-handle_refusal-no) →
-    let a = c.args in
-    c.handle_refusal-no.result ≡ lowest (hold_tests a.spoilt a.b a.generation (state_of a.k))
-unfolding hold_tests state_of
-tests_are c = c.handle_refusal-no.ensures ∙ rw (c.stale-stale.ensures, c.byte_at-n.ensures) refl
+allowed : (c : In_ok-handle_refusal) → (c.args.handle.block < blocks) × (c.byte_at-n.result < most_holds)
+allowed c = let h = handle_allowed _ _ _ _ _ refl c.in_ok-handle_refusal.ensures in (h.block, leb-false _ _ h.passed)
 
-allowed : (c : Else-no-ne0) → (c.args.b < blocks) × (c.byte_at-n.result < most_holds)
-allowed c = let h = handle_allowed _ _ _ _ _ _ refl c.handle_refusal-no.ensures c.if-no-ne0.false in (h.block, leb-false _ _ h.passed)
+pub returns-in_err-handle_refusal : goal.returns-in_err-handle_refusal
+unfolding hold hold_tests state_of
+returns-in_err-handle_refusal c = λ z.
+    refused _ z _ _ _ _ c.from_residual.ensures.1 (c.in_err-handle_refusal.ensures ∙ rw (c.is_stale.ensures, c.byte_at-n.ensures) refl)
 
-pub returns-then-no-ne0 : goal.returns-then-no-ne0
-unfolding hold
-returns-then-no-ne0 c = λ z. refusal _ _ _ _ z _ (tests_are (goal.at.returns-then-no-ne0 c).After-handle_refusal-no) c.if-no-ne0.true c.refuse.ensures
+pub overflow_add-k : goal.overflow_add-k
+overflow_add-k c = let h = allowed (goal.at.overflow_add-k c).In_ok-handle_refusal in omega arith
+
+pub bounds-k-b : goal.bounds-k-b
+bounds-k-b c = let h = allowed (goal.at.bounds-k-b c).In_ok-handle_refusal in h.0
 
 pub overflow_add-n : goal.overflow_add-n
-overflow_add-n c = let h = allowed (goal.at.overflow_add-n c).Else-no-ne0 in omega arith
-
-pub with_holds-requires : goal.with_holds-requires
-with_holds-requires c = (allowed (goal.at.with_holds-requires c).Else-no-ne0).0
-
-pub overflow_add-n-2 : goal.overflow_add-n-2
-overflow_add-n-2 c = let h = allowed (goal.at.overflow_add-n-2 c).Else-no-ne0 in omega arith
+overflow_add-n c = let h = allowed (goal.at.overflow_add-n c).In_ok-handle_refusal in omega arith
 
 pub returns : goal.returns
-unfolding hold held answered state_of
-returns c =
-    λ z. doing _ _ _ _ z _ (tests_are (goal.at.returns c).After-handle_refusal-no) c.if-no-ne0.false
-    (rw (c.with_holds.ensures, c.add.ensures.result_value, c.add.ensures.result_value_2, c.done.ensures, c.byte_at-n.ensures) refl)
+unfolding hold hold_tests held state_of told
+returns c = λ z.
+    doing _ z _ _ _ _ (c.in_ok-handle_refusal.ensures ∙ rw (c.is_stale.ensures, c.byte_at-n.ensures) refl)
+    (rw (c.add.ensures.cells, c.add.ensures.marks, c.done.ensures, c.byte_at-n.ensures) refl)

@@ -1,36 +1,44 @@
-use mathlib.Core.Path.{refl, sym, ◌∙◌}
+use mathlib.Core.Path.{refl, ◌∙◌}
 use native.Mathlib.Omega.{arith}
-use Rattle.machine.specs.Events.{post_front}
-use Rattle.state.specs.View.{answered}
-use Rattle.state.proofs.Glue.{refusal, doing}
-use Rattle.events.proofs.Posts.{Postable, front_tests, postable, queued-is}
+use Rattle.machine.specs.Events.{post_front, posted_front}
+use Rattle.mail.specs.View.{pushed_front}
+use Rattle.state.specs.View.{state_of, told}
+use Rattle.state.proofs.Glue.{refused, doing}
+use Rattle.events.proofs.Posts.{Postable, postable, has_place, front_tests}
 use Rattle.events.proofs.post_front.Goals as goal
-use Rattle.events.proofs.post_front.Goals.{Else-no-ne0}
+use Rattle.events.proofs.post_front.Goals.{In_ok-may_post}
 
-may : (c : Else-no-ne0) → let a = c.args in Postable a.k a.b a.p
-may c =
-    let a = c.args in
-    postable a.k a.spoilt a.b a.generation a.p 0 (sym c.post_no-no.ensures ∙ c.if-no-ne0.false) c.requires
+may : (c : In_ok-may_post) → Postable (state_of c.args.k.now) c.args.handle.block c.args.p
+may c = postable _ _ _ _ _ _ c.in_ok-may_post.ensures c.requires
 
-pub returns-then-no-ne0 : goal.returns-then-no-ne0
+pub returns-in_err-may_post : goal.returns-in_err-may_post
 unfolding post_front
-returns-then-no-ne0 c = λ z. refusal _ _ _ _ z _ (c.post_no-no.ensures ∙ front_tests _ _ _ _ _) c.if-no-ne0.true c.refuse.ensures
+returns-in_err-may_post c = λ z.
+    refused _ z _ _ _ _ c.from_residual.ensures.1 (c.in_err-may_post.ensures ∙ front_tests _ _ _ _ _)
 
-pub post_ahead-requires : goal.post_ahead-requires
-post_ahead-requires c = let h = may (goal.at.post_ahead-requires c).Else-no-ne0 in (h.block, h.low, h.high, h.free)
+pub overflow_cast-queued : goal.overflow_cast-queued
+overflow_cast-queued c = let h = may (goal.at.overflow_cast-queued c).In_ok-may_post in omega (arith, h.free, c.queued-queued.ensures)
 
 pub overflow_sub-p : goal.overflow_sub-p
-overflow_sub-p c = (may (goal.at.overflow_sub-p c).Else-no-ne0).low
+overflow_sub-p c = (may (goal.at.overflow_sub-p c).In_ok-may_post).low
 
-pub bounds-counts-p : goal.bounds-counts-p
-bounds-counts-p c = let h = may (goal.at.bounds-counts-p c).Else-no-ne0 in omega (arith, h.high)
+pub offset_bounds-k-p : goal.offset_bounds-k-p
+offset_bounds-k-p c = let h = may (goal.at.offset_bounds-k-p c).In_ok-may_post in omega (arith, h.high)
 
-pub overflow_add-counts : goal.overflow_add-counts
-overflow_add-counts c = omega (arith, (may (goal.at.overflow_add-counts c).Else-no-ne0).free)
+pub bounds-k-p : goal.bounds-k-p
+bounds-k-p c = let h = may (goal.at.bounds-k-p c).In_ok-may_post in omega (arith, h.high, h.low)
+
+pub overflow_cast-handle : goal.overflow_cast-handle
+overflow_cast-handle c = let h = may (goal.at.overflow_cast-handle c).In_ok-may_post in omega (arith, h.block)
+
+pub push_front-requires : goal.push_front-requires
+push_front-requires c = has_place _ _ _ (may (goal.at.push_front-requires c).In_ok-may_post)
+
+pub overflow_add-queued : goal.overflow_add-queued
+overflow_add-queued c = let h = may (goal.at.overflow_add-queued c).In_ok-may_post in omega (arith, h.free, c.queued-queued.ensures)
 
 pub returns : goal.returns
-unfolding post_front answered
-returns c =
-    let a = c.args in
-    λ z. doing _ _ _ _ z _ (c.post_no-no.ensures ∙ front_tests _ _ _ _ _) c.if-no-ne0.false
-    (rw (c.post_ahead.ensures, c.done.ensures, queued-is a.k a.p) refl)
+unfolding post_front posted_front state_of told
+returns c = λ z.
+    doing _ z _ _ _ _ (c.in_ok-may_post.ensures ∙ front_tests _ _ _ _ _)
+    (rw (pushed_front _ _ _ _ c.push_front.ensures, c.entry_of.ensures, c.add.ensures.cells, c.add.ensures.marks, c.done.ensures, c.queued-queued.ensures) refl)

@@ -1,5 +1,7 @@
 use mathlib.Core.Path.{refl, sym, ◌∙◌}
 use native.Mathlib.Omega.{arith}
+use Prim.Native.Nat.{◌+◌}
+use Rattle.ground.specs.Word.{word_bytes}
 use Rattle.ground.specs.Bytes.{blank}
 use Rattle.ground.specs.Every.{every_done}
 use Rattle.ground.specs.Words.{begins_zero, begins_other, zero-at}
@@ -27,3 +29,12 @@ loop-j-preserved c =
 pub returns : goal.returns
 unfolding blank
 returns c = sym (every_done (zero-at c.args.s.now) _ _ c.loop-j-test.false) ∙ c.loop-j.invariant
+
+-- the last word ends where the range does
+pub returns-else-word-ne0 : goal.returns-else-word-ne0
+unfolding blank
+returns-else-word-ne0 c =
+    let l = c.loop-j in
+    sym (every_done (zero-at c.args.s.now) (l.j + word_bytes) _ (omega arith))
+    ∙ sym (begins_zero _ l.j _ c.word.ensures _ (omega arith) c.if-word-ne0.false)
+    ∙ l.invariant

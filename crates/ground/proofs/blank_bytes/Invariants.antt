@@ -1,5 +1,4 @@
 use mathlib.Core.Path.{◌≡◌}
-use Prim.Native.Nat.{◌-◌}
 use Rattle.ground.specs.Bytes.{blank}
 use Rattle.ground.specs.Range.{every}
 use Rattle.ground.specs.Words.{zero-at}
@@ -7,6 +6,3 @@ use Rattle.ground.proofs.blank_bytes.Given as goal
 
 abbrev pub invariant-loop-j : goal.invariant-loop-j
 invariant-loop-j l = every (zero-at l.s) l.j l.e ≡ blank l.s l.i l.e
-
-abbrev pub decreases-loop-j : goal.decreases-loop-j
-decreases-loop-j l = l.e - l.j

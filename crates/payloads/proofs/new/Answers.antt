@@ -1,73 +1,67 @@
-use mathlib.Core.Path.{◌≡◌, sym, ◌∙◌}
-use Prim.Native.Nat.{ℕ, ◌<◌, ◌≤◌}
+use borrow.Author.Rules.{rules}
+use mathlib.Core.Path.{◌≡◌, refl, sym, ◌∙◌}
+use Prim.Native.Nat.{◌≤◌}
 use native.Mathlib.Omega.{arith}
 use lib.ListN.{length}
-use Rattle.machine.specs.Events.{new, new_tests}
-use Rattle.machine.specs.Numbers.{blocks, most_bytes, payload_bytes}
-use Rattle.machine.specs.Reply.{lowest}
-use Rattle.pool.specs.Row.{found}
-use Rattle.pool.specs.View.{cells}
-use Rattle.pool.specs.declared.Found.TheVariants.{At}
-use Rattle.state.specs.View.{areas, state_of}
-use Rattle.payloads.proofs.Blocks.{tests_none, none_refused, tests_found, found_size, found_allowed, taken-row, taken-marks}
-use Rattle.state.proofs.Glue.{refusal, writing}
+use lib.Seq.{length-take-le}
+use Rattle.std.proofs.Common.{Some, None, Err}
+use Rattle.numbers.specs.declared.answer.Refusal.TheVariants.{Dry}
+use Rattle.machine.specs.Events.{new, new_event, new_in, new_tests, none_found}
+use Rattle.machine.specs.Numbers.{most_bytes, payload_bytes}
+use Rattle.state.specs.View.{areas, state_of, told}
+use Rattle.state.proofs.Glue.{refusal, refused, refusal-numbered, writing}
+use Rattle.pool.specs.View.{cells, cells-length, marks}
+use Rattle.payloads.proofs.Blocks.{Took, took, took_none, new_allowed, new_refused, new-dry}
 use Rattle.payloads.proofs.new.Goals as goal
-use Rattle.payloads.proofs.new.Goals.{After-new_refusal-no}
+use Rattle.payloads.proofs.new.Goals.{In_ok-b}
 
--- A block is found.
-module _ (c : After-new_refusal-no) where
-  abbrev b : ℕ
-  b = c.in-At.b
+-- what is found, and what is not
+block : (c : In_ok-b) → Took (cells c.args.k.now.pool) (marks c.args.k.now.pool) c.from-n.result c.in_ok-b.b (cells c.take-taken.new.self) (marks c.take-taken.new.self)
+block c =
+    let found : c.take-taken.result.found ≡ Some c.in_ok-b.b = search rules in
+    took _ _ _ _ _ _ _ _ (cells-length c.args.k.now.pool) c.take-taken.ensures found
 
-  abbrev n : ℕ
-  n = c.wide-n.result
+allowed : (c : In_ok-b) → (c.from-n.result ≤ most_bytes) × (length c.args.payloads.now ≡ payload_bytes)
+allowed c = new_allowed _ _ _ _ c.in_ok-new_refusal.ensures
 
-  is_found : At b ≡ found (cells c.args.k.pool) n
-  is_found = sym c.in-At.is ∙ c.take-taken.ensures.answer
-
-  is_size : n ≡ c.args.size
-  is_size = c.wide-n.ensures.0
-
-  tests_are : c.new_refusal-no.result ≡ lowest (new_tests c.args.spoilt c.args.g c.args.size (state_of c.args.k) c.args.payloads.now)
-  unfolding state_of
-  tests_are = c.new_refusal-no.ensures ∙ tests_found (state_of c.args.k) c.args.spoilt c.args.payloads.now _ _ _ _ c.wide-in-At.ensures.0 is_size b is_found
-
-  size_found : found (state_of c.args.k).cells c.args.size ≡ At b
-  unfolding state_of
-  size_found = found_size (state_of c.args.k) c.args.spoilt c.args.payloads.now _ _ _ _ c.wide-in-At.ensures.0 is_size b is_found
-
-  allowed : c.new_refusal-no.result ≡ 0 → (b < blocks) × (c.args.size ≤ most_bytes) × (length c.args.payloads.now ≡ payload_bytes)
-  unfolding state_of
-  allowed z = found_allowed (state_of c.args.k) c.args.spoilt c.args.payloads.now _ _ _ _ c.wide-in-At.ensures.0 is_size b is_found (sym c.new_refusal-no.ensures ∙ z)
-
-pub returns-then-no-ne0 : goal.returns-then-no-ne0
-unfolding new
-returns-then-no-ne0 c = λ t u l. refusal _ _ _ _ (areas _ t u l) _ (tests_are (goal.at.returns-then-no-ne0 c).After-new_refusal-no) c.if-no-ne0.true c.refuse-then-no-ne0.ensures
-
-pub new_in-requires : goal.new_in-requires
-new_in-requires c =
-    let after_new_refusal_no = (goal.at.new_in-requires c).After-new_refusal-no in
-    let h = allowed after_new_refusal_no c.if-no-ne0.false in
-    let take = c.take-taken.ensures in
-    record { b_lt_blocks = (h.0, omega (arith, h.1, c.requires), h.2, taken-row _ _ _ _ (is_found after_new_refusal_no) take.row); pool_value = (taken-marks _ _ _ _ _ _ (is_found after_new_refusal_no) (is_size after_new_refusal_no) take.marks, rw (← is_size after_new_refusal_no) take.mark) }
-
--- No block is found.
-pub returns-in-Nothing : goal.returns-in-Nothing
+pub returns-in_err-new_refusal : goal.returns-in_err-new_refusal
 unfolding new state_of
-returns-in-Nothing c = λ t u l.
-    let a = c.args in
-    let x = c.wide.ensures.0 in
-    let y = c.wide-n.ensures.0 in
-    let f = sym c.in-Nothing.is ∙ c.take-taken.ensures.answer in
-    refusal _ _ _ _ (areas _ t u l) _
-    (c.new_refusal.ensures ∙ tests_none (state_of a.k) a.spoilt a.payloads.now _ _ _ _ x y f)
-    (λ z. none_refused (state_of a.k) a.spoilt a.payloads.now _ _ _ _ x y (sym c.new_refusal.ensures ∙ z))
-    c.refuse.ensures
+returns-in_err-new_refusal c = λ t u l.
+    refused _ (areas _ t u l) _ _ _ _ c.from_residual.ensures.1
+    (new_refused (state_of c.args.k.now) c.args.spoilt c.args.payloads.now _ _ _ _ c.from.ensures c.from-n.ensures _ (refusal-numbered _) c.in_err-new_refusal.ensures)
 
-pub returns-else-no-ne0 : goal.returns-else-no-ne0
-unfolding new
-returns-else-no-ne0 c =
-    let after_new_refusal_no = (goal.at.returns-else-no-ne0 c).After-new_refusal-no in
+pub returns-in_err-b : goal.returns-in_err-b
+unfolding new state_of told
+returns-in_err-b c =
+    let found : c.take-taken.result.found ≡ None = search rules in
+    let dry : c.from_residual-in_err-b.result ≡ Err Dry = search rules in
+    let none = took_none _ _ _ _ _ _ _ c.take-taken.ensures found in
+    λ t u l. rw (dry, none.1, none.2)
+    (refusal c.args.k.now (areas _ t u l) _ _ Dry (new-dry (state_of c.args.k.now) c.args.spoilt c.args.payloads.now _ _ _ _ c.from.ensures c.from-n.ensures c.in_ok-new_refusal.ensures none.0))
+
+pub bounds-k-b : goal.bounds-k-b
+bounds-k-b c = let h = block (goal.at.bounds-k-b c).In_ok-b in h.block
+
+pub bounds-k-b-2 : goal.bounds-k-b-2
+bounds-k-b-2 c = let h = block (goal.at.bounds-k-b-2 c).In_ok-b in h.block
+
+pub bounds-k-b-3 : goal.bounds-k-b-3
+bounds-k-b-3 c = let h = block (goal.at.bounds-k-b-3 c).In_ok-b in h.block
+
+pub slice_bounds-put_payload-end : goal.slice_bounds-put_payload-end
+slice_bounds-put_payload-end c = let h = allowed (goal.at.slice_bounds-put_payload-end c).In_ok-b in sym (length-take-le c.from-n.result c.args.payload.now (omega (arith, h.0)))
+
+pub put_payload-requires : goal.put_payload-requires
+put_payload-requires c = let x = (goal.at.put_payload-requires c).In_ok-b in ((block x).block, (allowed x).1)
+
+pub overflow_cast-b : goal.overflow_cast-b
+overflow_cast-b c = let h = block (goal.at.overflow_cast-b c).In_ok-b in omega (arith, h.block)
+
+pub returns : goal.returns
+unfolding new new_tests new_event new_in none_found state_of told
+returns c =
+    let h = block (goal.at.returns c).In_ok-b in
     λ t u l.
-    writing _ _ _ _ (areas c.args.payloads.now t u l) _ (tests_are after_new_refusal_no) (areas _ t u l) c.if-no-ne0.false
-    (rw (size_found after_new_refusal_no) (c.new_in.ensures t u l))
+    writing _ (areas c.args.payloads.now t u l) _ _ _ _ (areas _ t u l)
+    (c.in_ok-new_refusal.ensures ∙ rw (c.from.ensures, ← c.from-n.ensures, h.found) refl)
+    (rw (← c.from-n.ensures, h.found, c.made.ensures, c.generation.ensures, h.generation, c.take-taken.ensures.mark, h.row, h.marks, c.put_payload.ensures) refl)

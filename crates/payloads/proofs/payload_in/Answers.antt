@@ -10,7 +10,6 @@ pub returns : goal.returns
 unfolding payload_of state_of
 returns c =
     let a = c.args in
-    let at = c.place_of-at in
-    let n = c.wide in
-    let e : at.result + n.result - at.result ≡ get_or a.k.sizes a.b 0 = omega (arith, n.ensures.0) in
-    rw (e, at.ensures.0) refl
+    let p = c.part_of-place in
+    let e : p.result.place + p.result.length - p.result.place ≡ get_or a.k.now.sizes a.b 0 = omega (arith, p.ensures.1) in
+    rw (e, p.ensures.0) refl

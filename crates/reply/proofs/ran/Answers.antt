@@ -38,5 +38,5 @@ returns c =
     let row = c.args.row.now in
     let acts = drop 3 row in
     let long : most_actions ≤ length acts = omega (arith, length-drop 3 row, c.requires.row_len.0) in
-    rw (c.with_handle.ensures, c.copy.ensures, cut acts (replicate 4 0) most_actions long)
+    rw (c.with_handle.ensures, c.copy_from_slice.ensures.after, cut acts (replicate 4 0) most_actions long)
     (row_told c.args.p c.args.g row (handle c.args.first c.args.generation) c.requires.row_value)

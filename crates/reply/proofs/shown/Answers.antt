@@ -10,9 +10,6 @@ use Rattle.reply.proofs.shown.Goals as goal
 count_of : (l : List ℕ) → min (length l) most_actions ≡ length (take most_actions l)
 count_of l = omega (arith, length-take most_actions l)
 
-pub overflow_cast-r : goal.overflow_cast-r
-overflow_cast-r c = omega (arith, c.least.ensures)
-
 pub returns : goal.returns
 unfolding reply_of bytes
-returns c = rw (c.fill.ensures, c.least.ensures, count_of) refl
+returns c = rw (c.fill.ensures, c.min.ensures, count_of) refl

@@ -17,4 +17,4 @@ unfolding handle
 returns c =
     let l = c.args.reply in
     let long : length l ≤ reply_bytes = search rules in
-    rw c.copy.ensures (over-end l _ handle_place 4 long)
+    rw (c.copy_from_slice.ensures.after, c.to_le_bytes.ensures) (over-end l _ handle_place 4 long)

@@ -1,21 +1,28 @@
+use borrow.Author.Rules.{rules}
+use mathlib.Core.Bool.{cond}
 use mathlib.Core.Path.{◌≡◌, refl, ◌∙◌}
-use Rattle.machine.specs.Reply.{lowest}
 use Rattle.machine.specs.Steps.{end, end_tests}
-use Rattle.state.specs.View.{state_of}
-use Rattle.state.proofs.Glue.{refusal, doing}
+use Rattle.mail.specs.Entry.{hand_of}
+use Rattle.mail.specs.declared.Hand.TheVariants.{Nothing}
+use Rattle.state.specs.View.{state_of, told}
+use Rattle.state.proofs.Glue.{doing, refused}
+use Rattle.steps.proofs.Runs.{ended_is, freed_is}
 use Rattle.steps.proofs.end.Goals as goal
-use Rattle.steps.proofs.end.Goals.{After-end_refusal-no}
 
-tests_are : (c : After-end_refusal-no) →
-    let a = c.args in
-    c.end_refusal-no.result ≡ lowest (end_tests a.spoilt (state_of a.k))
-unfolding end_tests state_of
-tests_are c = c.end_refusal-no.ensures ∙ rw c.is_open.ensures refl
+pub returns-in_err-end_refusal : goal.returns-in_err-end_refusal
+unfolding end end_tests
+returns-in_err-end_refusal c = λ z.
+    refused _ z _ _ _ _ c.from_residual.ensures.1 (c.in_err-end_refusal.ensures ∙ rw c.is_open.ensures refl)
 
-pub returns-then-no-ne0 : goal.returns-then-no-ne0
-unfolding end
-returns-then-no-ne0 c = λ z. refusal _ _ _ _ z _ (tests_are (goal.at.returns-then-no-ne0 c).After-end_refusal-no) c.if-no-ne0.true c.refuse.ensures
+nothing : hand_of 0 ≡ Nothing
+unfolding hand_of
+nothing = refl
 
 pub returns : goal.returns
-unfolding end state_of
-returns c = λ z. doing _ _ _ _ z _ (tests_are (goal.at.returns c).After-end_refusal-no) c.if-no-ne0.false (c.end_done.ensures z)
+unfolding end end_tests told state_of
+returns c = λ z.
+    let k = c.args.k.now in
+    let gone = c.let_go-freed.ensures in
+    let freed : c.from-2.result ≡ cond c.let_go-freed.result 1 0 = search rules in
+    doing _ z _ _ _ _ (c.in_ok-end_refusal.ensures ∙ rw c.is_open.ensures refl)
+    (rw (nothing, c.done.ensures, freed, gone.frees.row, gone.marks, gone.frees.answer, c.from.ensures, c.block_of-b.ensures, c.hand_of.ensures, ended_is k, freed_is k) refl)

@@ -1,50 +1,34 @@
-use mathlib.Core.Path.{◌≡◌, refl, sym, ◌∙◌}
-use Prim.Native.Nat.{◌-◌}
-use lib.ListN.{get_or}
-use Rattle.tick.proofs.Turns.{turn_off, turn_less, turn_late, turn-fire, may-fire}
+use native.Mathlib.Omega.{arith}
+use Rattle.tick.proofs.Turns.{armed_ok, still_ready, turn_off, turn_less, turn_late, turn-fire}
 use Rattle.tick.proofs.tick_timer.Goals as goal
-use Rattle.tick.proofs.tick_timer.Goals.{After-room_of}
 
-room_is : (c : After-room_of) →
-    let a = c.args in
-    let p = get_or a.owners.now a.t 0 in
-    c.room_of.result ≡ get_or a.depths.now (p - 1) 0 - get_or a.counts.now (p - 1) 0
-room_is c =
-    c.room_of.ensures
-    ∙ rw (c.of_object-2.ensures.0, c.of_object.ensures.0, c.wide-p.ensures.0) refl
+pub returns-then-timer-eq0-clause-turned : goal.returns-then-timer-eq0-clause-turned
+returns-then-timer-eq0-clause-turned c = λ s. turn_off _ _ _ _ s _ _ c.if-timer-eq0.true
 
-pub returns-then-left-eq0 : goal.returns-then-left-eq0
-returns-then-left-eq0 c =
-    let t = turn_off _ _ _ _ _ _ _ _ _ _ _ c.requires.ready c.requires.t_lt_timers c.if-left-eq0.true in
-    record { ready_2 = t.0; fired_bound = t.1.0; late_after = t.1.1 }
+pub returns-then-timer-gt1-clause-still_ready : goal.returns-then-timer-gt1-clause-still_ready
+returns-then-timer-gt1-clause-still_ready c = still_ready _ _ _ c.requires.ready c.if-timer-eq0.false c.requires.few.0 _
 
-pub returns-then-left-gt1 : goal.returns-then-left-gt1
-returns-then-left-gt1 c =
-    let t = turn_less _ _ _ _ _ _ _ _ _ _ _ c.requires.ready c.requires.t_lt_timers c.if-left-eq0.false c.if-left-gt1.true in
-    record { ready_2 = t.0; fired_bound = t.1.0; late_after = t.1.1 }
+pub returns-then-timer-gt1-clause-turned : goal.returns-then-timer-gt1-clause-turned
+returns-then-timer-gt1-clause-turned c = λ s. turn_less _ _ _ _ s _ _ c.if-timer-eq0.false c.if-timer-gt1.true
 
-pub returns-then-room_of-eq0 : goal.returns-then-room_of-eq0
-returns-then-room_of-eq0 c =
-    let e = c.one_late.ensures in
-    rw (e.0, e.1)
-    (let t =
-    turn_late _ _ _ _ _ _ _ _ _ _ _ c.requires.ready c.requires.t_lt_timers c.if-left-eq0.false
-    c.if-left-gt1.false (sym (room_is (goal.at.returns-then-room_of-eq0 c).After-room_of) ∙ c.if-room_of-eq0.true) in
-    record { ready_2 = t.0; fired_bound = t.1.0; late_after = t.1.1 })
+pub overflow_sub-q : goal.overflow_sub-q
+overflow_sub-q c = rw c.from-q.ensures (armed_ok _ _ _ c.requires.ready c.if-timer-eq0.false).low
 
-pub fire-requires : goal.fire-requires
-fire-requires c =
-    let h =
-    may-fire _ _ _ _ _ _ _ _ _ _ _ c.requires.ready c.requires.t_lt_timers c.if-left-eq0.false c.if-left-gt1.false
-    (λ e. c.if-room_of-eq0.false (room_is (goal.at.fire-requires c).After-room_of ∙ e)) in
-    rw c.wide-p.ensures.0 (record { mail = c.requires.ready.mail; t_lt_timers = h })
+pub bounds-depths-q : goal.bounds-depths-q
+bounds-depths-q c = let a = armed_ok _ _ _ c.requires.ready c.if-timer-eq0.false in omega (arith, a.low, a.high, c.from-q.ensures)
 
-pub returns : goal.returns
-returns c =
-    let e = c.one_fired.ensures in
-    rw (e.0, e.1)
-    (let t =
-    turn-fire _ _ _ _ _ _ _ _ _ _ _ c.requires.ready c.requires.t_lt_timers c.if-left-eq0.false c.if-left-gt1.false
-    (λ e. c.if-room_of-eq0.false (room_is (goal.at.returns c).After-room_of ∙ e))
-    _ _ (rw c.wide-p.ensures.0 at c.fire.ensures) in
-    record { ready_2 = t.0; fired_bound = t.1.0; late_after = t.1.1 })
+pub bounds-mail-q : goal.bounds-mail-q
+bounds-mail-q c = let a = armed_ok _ _ _ c.requires.ready c.if-timer-eq0.false in omega (arith, a.low, a.high, c.from-q.ensures)
+
+pub returns-then-from-len-clause-turned : goal.returns-then-from-len-clause-turned
+returns-then-from-len-clause-turned c =
+    λ s. turn_late _ _ _ _ s _ _ c.if-timer-eq0.false c.if-timer-gt1.false (rw (c.from.ensures, c.len.ensures, c.from-q.ensures) at c.if-from-len.true)
+
+pub returns-clause-still_ready : goal.returns-clause-still_ready
+returns-clause-still_ready c = still_ready _ _ _ c.requires.ready c.if-timer-eq0.false c.requires.few.0 _
+
+pub returns-clause-turned : goal.returns-clause-turned
+returns-clause-turned c = λ s. rw c.from-q.ensures
+    (turn-fire _ _ _ _ s _ _ c.if-timer-eq0.false c.if-timer-gt1.false
+    (rw (c.from.ensures, c.len.ensures, c.from-q.ensures) at c.if-from-len.false)
+    _ (rw (c.entry_of.ensures, c.from-q.ensures) at c.push_back.ensures))

@@ -6,6 +6,6 @@ pub returns-then-s-t : goal.returns-then-s-t
 unfolding limit
 returns-then-s-t c = rw (eq-eqb _ _ c.if-s-t.true) c.parent_of.ensures
 
-pub returns : goal.returns
+pub returns-else-s-t : goal.returns-else-s-t
 unfolding limit
-returns c = rw (ne_eqb _ _ c.if-s-t.false) c.find_common.ensures
+returns-else-s-t c = rw (ne_eqb _ _ c.if-s-t.false) c.find_common.ensures

@@ -1,5 +1,5 @@
 use borrow.Author.Rules.{rules}
-use mathlib.Core.Path.{◌≡◌, refl, sym, ap, ◌∙◌}
+use mathlib.Core.Path.{◌≡◌, sym, ap, ◌∙◌}
 use Prim.Native.Nat.{◌-◌, ◌+◌}
 use Rattle.chart.specs.Chart.{byte, outward}
 use Rattle.chart.specs.Held.{push_all, settling}
@@ -8,33 +8,29 @@ use Rattle.chart.proofs.Walk.{settled_stop, settling_stop, settled-more, settlin
 use Rattle.chart.specs.Numbers.{levels}
 use Rattle.chart.proofs.step.settle.Goals as goal
 
-pub loop-k-init : goal.loop-k-init
-loop-k-init c = (search rules, refl, refl)
-
-pub returns-then-i-eq0 : goal.returns-then-i-eq0
-returns-then-i-eq0 c =
-    let d = c.args.chart.now in
-    let at = c.loop-k in
-    let e = sym c.state_field-i.ensures ∙ c.if-i-eq0.true in
-    settled_out_lem d _ _ _ _ (sym (settled_stop d (levels - at.k) at.s e) ∙ at.invariant.1)
-    (sym (push_none _ _ (settling_stop d (levels - at.k) at.s e)) ∙ at.invariant.2)
-
 pub loop-k-preserved : goal.loop-k-preserved
 loop-k-preserved c =
     let d = c.args.chart.now in
     let at = c.loop-k in
-    let n : byte d at.s 4 ≡ 0 → ⊥ = λ z. c.if-i-eq0.false (c.state_field-i.ensures ∙ z) in
-    let p = settled-more d at.k at.s (search rules) n in
-    let q = settling-more d at.k at.s (search rules) n in (
-      search rules,
-      rw c.state_field-i.ensures (sym p ∙ at.invariant.1),
-      rw (c.enter_down-out.ensures, c.push.ensures, c.state_field.ensures, c.state_field-i.ensures)
-          (push_turn at.out (listed (byte d at.s 5)) (enter d (up_to at.s (outward d (byte d at.s 4)))) (settling (levels - (at.k + 1)) d (byte d at.s 4)) ∙ ap (push_all at.out) (sym q) ∙ at.invariant.2),
+    let n : byte d at.next 4 ≡ 0 → ⊥ = λ z. c.if-initial-eq0.false (c.state_field-initial.ensures ∙ z) in
+    let p = settled-more d at.k at.next (search rules) n in
+    let q = settling-more d at.k at.next (search rules) n in (
+      rw c.state_field-initial.ensures (sym p ∙ at.invariant.0),
+      rw (c.enter.ensures, c.push.ensures, c.state_field.ensures, c.state_field-initial.ensures)
+          (push_turn at.acts (listed (byte d at.next 5)) (enter d (up_to at.next (outward d (byte d at.next 4)))) (settling (levels - (at.k + 1)) d (byte d at.next 4)) ∙ ap (push_all at.acts) (sym q) ∙ at.invariant.1),
     )
 
-pub returns : goal.returns
-returns c =
+pub returns-then-initial-eq0 : goal.returns-then-initial-eq0
+returns-then-initial-eq0 c =
     let d = c.args.chart.now in
     let at = c.loop-k in
-    settled_out_lem d _ _ _ _ (sym (settled_done d at.k at.s (search rules)) ∙ at.invariant.1)
-    (sym (push_none _ _ (settling_done d at.k at.s (search rules))) ∙ at.invariant.2)
+    let e = sym c.state_field-initial.ensures ∙ c.if-initial-eq0.true in
+    settled_out_lem d _ _ _ _ (sym (settled_stop d (levels - at.k) at.next e) ∙ at.invariant.0)
+    (sym (push_none _ _ (settling_stop d (levels - at.k) at.next e)) ∙ at.invariant.1)
+
+pub returns-after-loop-k : goal.returns-after-loop-k
+returns-after-loop-k c =
+    let d = c.args.chart.now in
+    let at = c.loop-k in
+    settled_out_lem d _ _ _ _ (sym (settled_done d at.k at.next (search rules)) ∙ at.invariant.0)
+    (sym (push_none _ _ (settling_done d at.k at.next (search rules))) ∙ at.invariant.1)

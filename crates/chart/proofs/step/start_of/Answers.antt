@@ -5,10 +5,10 @@ pub returns : goal.returns
 returns c =
     rw (
       c.settle.ensures,
-      c.enter_down.ensures,
-      c.push-first.ensures,
-      c.no_acts.ensures,
+      c.enter.ensures,
+      c.push.ensures,
+      c.none-acts.ensures,
       c.field.ensures,
-      c.field-t.ensures,
+      c.field-target.ensures,
     )
     (start_out c.args.chart.now)

@@ -3,4 +3,4 @@ use Rattle.charts.proofs.records.flag_command.Goals as goal
 
 pub returns : goal.returns
 unfolding choose command
-returns c = λ d z. rw (← c.arg-3.ensures.0, ← c.arg-2.ensures.0, ← c.arg.ensures.0, ← c.spoilt.ensures) (c.flag.ensures z)
+returns c = λ d z. rw (c.said.ensures, ← c.arg-3.ensures.0, ← c.arg-2.ensures.0, ← c.arg.ensures.0, ← c.spoilt.ensures) (c.flag.ensures z)

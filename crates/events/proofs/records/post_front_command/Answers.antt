@@ -3,4 +3,4 @@ use Rattle.events.proofs.records.post_front_command.Goals as goal
 
 pub returns : goal.returns
 unfolding choose command
-returns c = λ d z. rw (← c.arg-2.ensures.0, ← c.generation.ensures, ← c.arg.ensures.0, ← c.spoilt.ensures) (c.post_front.ensures z)
+returns c = λ d z. rw (c.said.ensures, ← c.arg.ensures.0, ← c.handle.ensures.generation, ← c.handle.ensures.block.0, ← c.spoilt.ensures) (c.post_front.ensures z)

@@ -9,10 +9,9 @@ pub loop-k-preserved : goal.loop-k-preserved
 loop-k-preserved c =
     let d = c.args.chart.now in
     let at = c.loop-k in
-    (search rules, rw c.parent_of-t.ensures (sym (up_more d at.k at.t (search rules)) ∙ at.invariant.1))
+    rw c.parent_of-t.ensures (sym (up_more d at.k at.t (search rules)) ∙ at.invariant)
 
 pub returns : goal.returns
 returns c =
     let d = c.args.chart.now in
-    ap (λ x. eqb x 0) (sym (up_done d c.loop-k.k c.loop-k.t (search rules)) ∙ c.loop-k.invariant.1)
-    ∙ level_same d levels c.args.s
+    ap (λ x. eqb x 0) (sym (up_done d c.loop-k.k c.loop-k.t (search rules)) ∙ c.loop-k.invariant) ∙ level_same d levels c.args.s

@@ -1,11 +1,8 @@
 use mathlib.Core.Path.{◌≡◌}
-use Prim.Native.Nat.{◌≤◌, ◌-◌}
+use Prim.Native.Nat.{◌-◌}
 use Rattle.chart.specs.Held.{up}
 use Rattle.chart.specs.Numbers.{levels}
 use Rattle.flattener.proofs.faults.level_ok.Given as goal
 
 abbrev pub invariant-loop-k : goal.invariant-loop-k
-invariant-loop-k l = (l.k ≤ levels) × (up (levels - l.k) l.chart l.t ≡ up levels l.chart l.s)
-
-abbrev pub decreases-loop-k : goal.decreases-loop-k
-decreases-loop-k l = levels - l.k
+invariant-loop-k l = up (levels - l.k) l.chart l.t ≡ up levels l.chart l.s

@@ -12,27 +12,27 @@ pub returns-then-not-is_among : goal.returns-then-not-is_among
 unfolding tree_ok
 returns-then-not-is_among c = simp (← c.field.ensures, sym c.is_among.ensures ∙ c.if-not-is_among.true)
 
-pub loop-i-init : goal.loop-i-init
+pub loop-s-init : goal.loop-s-init
 unfolding tree_ok
-loop-i-init c = (search rules, search rules, simp (← c.field.ensures, sym c.is_among.ensures ∙ c.if-not-is_among.false))
+loop-s-init c = simp (← c.field.ensures, sym c.is_among.ensures ∙ c.if-not-is_among.false)
 
 pub returns-then-not-state_ok : goal.returns-then-not-state_ok
 returns-then-not-state_ok c =
     let d = c.args.chart.now in
     let n = c.args.n in
-    let at = c.loop-i in
-    let q : state_at n d at.i ≡ false = rw (← tail_part d (8 * at.i)) (sym c.state_ok.ensures ∙ c.if-not-state_ok.true) in
-    sym (every_fail (state_at n d) at.i (n + 1) (search rules) q) ∙ at.invariant.2
+    let s = c.loop-s.s in
+    let q : state_at n d s ≡ false = rw (← tail_part d (8 * s)) (sym c.state_ok.ensures ∙ c.if-not-state_ok.true) in
+    sym (every_fail (state_at n d) s (n + 1) (search rules) q) ∙ c.loop-s.invariant
 
-pub loop-i-preserved : goal.loop-i-preserved
-loop-i-preserved c =
+pub loop-s-preserved : goal.loop-s-preserved
+loop-s-preserved c =
     let d = c.args.chart.now in
     let n = c.args.n in
-    let at = c.loop-i in
-    let q : state_at n d at.i ≡ true = rw (← tail_part d (8 * at.i)) (sym c.state_ok.ensures ∙ c.if-not-state_ok.false) in
-    (search rules, search rules, sym (every_pass (state_at n d) at.i (n + 1) (search rules) q) ∙ at.invariant.2)
+    let s = c.loop-s.s in
+    let q : state_at n d s ≡ true = rw (← tail_part d (8 * s)) (sym c.state_ok.ensures ∙ c.if-not-state_ok.false) in
+    sym (every_pass (state_at n d) s (n + 1) (search rules) q) ∙ c.loop-s.invariant
 
 pub returns : goal.returns
 returns c =
     let from = c.args in
-    sym (every_done (state_at from.n from.chart.now) c.loop-i.i (from.n + 1) (search rules)) ∙ c.loop-i.invariant.2
+    sym (every_done (state_at from.n from.chart.now) c.loop-s.s (from.n + 1) (search rules)) ∙ c.loop-s.invariant

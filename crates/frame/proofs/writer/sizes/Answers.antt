@@ -1,27 +1,11 @@
-use Rattle.std.proofs.Common.{◌≡◌, length, drop, refl, arith}
-use Rattle.frame.specs.Wire.{sent_all}
-use Rattle.frame.proofs.Sending.{size_turn, sent-end}
+use Rattle.std.proofs.Common.{◌+◌, length, ◌∙◌, arith, rules}
+use Rattle.std.proofs.lemmas.Iterator.{YieldsList-from_slice, YieldsList-from_map}
+use Rattle.std.proofs.lemmas.Iterator.Adapters.{total_from_yields_List}
+use Rattle.frame.specs.Wire.{sent}
+use Rattle.frame.proofs.Sending.{sent_sizes, sent_all_most}
 use Rattle.frame.proofs.writer.sizes.Goals as goal
-
-pub loop-i-init : goal.loop-i-init
-loop-i-init c = (omega arith, omega arith, omega arith)
-
-pub overflow_add-t : goal.overflow_add-t
-overflow_add-t c = omega (arith, c.loop-i.invariant.2, c.size_of-t.ensures.1, c.loop-i-test.true, c.requires)
-
-pub loop-i-preserved : goal.loop-i-preserved
-loop-i-preserved c =
-    let l = c.loop-i in
-    let h = size_turn c.args.bytes.now l.i c.loop-i-test.true in (
-      omega (arith, c.loop-i-test.true),
-      omega (arith, h, l.invariant.1, c.size_of-t.ensures.0),
-      omega (arith, l.invariant.2, c.size_of-t.ensures.1),
-    )
 
 pub returns : goal.returns
 returns c =
-    let l = c.loop-i in
-    let e : length (sent_all (drop l.i c.args.bytes.now)) ≡ 0 = rw (sent-end _ l.i c.loop-i-test.false) refl in (
-      omega (arith, e, l.invariant.1),
-      omega (arith, l.invariant.0, l.invariant.2, c.requires),
-    )
+    let e = total_from_yields_List (λ a x. a + x) 0 _ c.sum.ensures.ran (YieldsList-from_map _ (λ b. length (sent b)) (YieldsList-from_slice c.args.bytes.now cc) c.map.ensures.closure (λ x r q k. search rules)) ∙ sent_sizes c.args.bytes.now in
+    (e, omega (arith, e, sent_all_most c.args.bytes.now))

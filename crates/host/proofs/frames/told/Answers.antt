@@ -1,16 +1,15 @@
 use borrow.Author.Rules.{rules}
-use borrow.Author.Tests.{not-true, not-false}
-use mathlib.Core.Bool.{true, false}
+use mathlib.Core.Bool.{cond}
 use mathlib.Core.List.{List, ◌++◌}
-use mathlib.Core.Path.{◌≡◌, refl}
+use mathlib.Core.Path.{◌≡◌, refl, ◌∙◌, sym}
 use Prim.Native.Nat.{ℕ, zero, suc, ◌+◌, ◌-◌, ◌≤◌}
 use native.Mathlib.Omega.{arith}
-use lib.ListN.{length, take, drop, replicate, length-drop}
+use lib.ListN.{length, take, drop, replicate}
 use lib.Seq.{length-take-le}
 use Rattle.ground.specs.Bytes.{padded}
-use Rattle.ground.specs.Padding.{padded_short, padded_whole}
-use Rattle.frame.specs.View.{frames_of}
-use Rattle.frame.specs.Wire.{most_bytes, most_data}
+use Rattle.ground.specs.Padding.{padded_short}
+use Rattle.frame.specs.View.{frames_told}
+use Rattle.frame.specs.Wire.{most_data}
 use Rattle.host.specs.Frames.{told_frame}
 use Rattle.host.proofs.frames.told.Goals as goal
 
@@ -19,37 +18,28 @@ zeros-left zero n h = let e : n - 0 ≡ n = omega arith in rw e refl
 zeros-left (suc m) zero h = absurd (omega arith)
 zeros-left (suc m) (suc n) h = let e : suc n - suc m ≡ n - m = omega arith in rw e (zeros-left m n (omega arith))
 
--- so many bytes, and behind them the zeros that were there
-filled : (d : List ℕ) (n : ℕ) → length d ≡ n → n ≤ most_data → padded n d ++ drop n (replicate most_data 0) ≡ padded most_data d
-filled d n e h = rw (padded_whole n d e, padded_short most_data d (omega arith), zeros-left n most_data h, e) refl
+module _ (n : ℕ) (few : n ≤ most_data) where
+  behind : 5 + n - 5 ≡ n
+  behind = omega arith
 
-module _ (bytes : List ℕ) (n : ℕ) (sized : length bytes ≡ most_bytes) (few : n ≤ most_data) where
-  size_is : length (take n (drop 2 bytes)) ≡ n
-  size_is = length-take-le n (drop 2 bytes) (rw length-drop (omega arith))
+  room : length (take (5 + n - 5) (replicate {A = ℕ} most_data 0)) ≡ n
+  room = rw behind (length-take-le n _ few)
 
-  data-told : (w : List ℕ) → w ≡ padded (length (take (5 + n - 5) (replicate {A = ℕ} most_data 0))) (take (2 + n - 2) (drop 2 bytes))
-      → w ++ drop (5 + n - 5) (replicate most_data 0) ≡ padded most_data (take n (drop 2 bytes))
-  data-told w e =
-      let e₅ : 5 + n - 5 ≡ n = omega arith in
-      let e₂ : 2 + n - 2 ≡ n = omega arith in
-      let l : length (take n (replicate {A = ℕ} most_data 0)) ≡ n = length-take-le n _ few in
-      rw (e, e₅, e₂, l) (filled (take n (drop 2 bytes)) n size_is few)
+  -- so many bytes, and behind them the zeros that were there
+  filled : (d : List ℕ) → length d ≡ n → d ++ drop (5 + n - 5) (replicate most_data 0) ≡ padded most_data d
+  filled d e = rw (behind, padded_short most_data d (omega (arith, e)), e, zeros-left n most_data few) refl
 
-pub returns-then-not-fed : goal.returns-then-not-fed
-unfolding told_frame frames_of
-returns-then-not-fed c =
-    let e : c.args.fed.complete ≡ false = not-true _ c.if-not-fed.true in
-    rw e refl
+pub copy_from_slice-requires : goal.copy_from_slice-requires
+copy_from_slice-requires c = room c.in-Some.frame.size c.in-Some.frame.small ∙ sym c.data.ensures.size
 
-pub slice_bounds-fill-end : goal.slice_bounds-fill-end
-slice_bounds-fill-end c =
-    let l : length c.args.fed.reader.bytes ≡ most_bytes = search rules in
-    omega (arith, l, c.requires)
+pub returns-in-Some : goal.returns-in-Some
+unfolding told_frame frames_told
+returns-in-Some c =
+    let f = c.in-Some.frame in
+    let k = rw c.data.ensures.bytes at c.data.ensures.size in
+    let g : c.from.result ≡ cond f.gap 1 0 = search rules in
+    rw (c.in-Some.is, g, k, c.copy_from_slice.ensures.after ∙ c.data.ensures.bytes, filled f.size f.small _ k) refl
 
-pub returns : goal.returns
-unfolding told_frame frames_of
-returns c =
-    let f = c.args.fed in
-    let l : length f.reader.bytes ≡ most_bytes = search rules in
-    let e : f.complete ≡ true = not-false _ c.if-not-fed.false in
-    rw (e, c.one.ensures.0, size_is f.reader.bytes f.size l c.requires, data-told f.reader.bytes f.size l c.requires _ c.fill.ensures) refl
+pub returns-in_default : goal.returns-in_default
+unfolding told_frame frames_told
+returns-in_default c = rw c.in_default.is refl

@@ -11,4 +11,4 @@ unfolding choose command
 returns c =
     let r = c.args.«record».now in
     let w : take most_bytes (drop 8 r) ≡ drop 8 r = take_all most_bytes (drop 8 r) (omega (arith, length-drop 8 r, c.requires.record_len)) in
-    λ d t u l. rw (c.spoilt_new.ensures, c.arg.ensures.0, c.byte_at.ensures, c.byte_at-2.ensures, w) at (c.new.ensures t u l)
+    λ d t u l. rw c.said.ensures (rw (c.spoilt_new.ensures, c.arg.ensures.0, c.byte_at.ensures, c.byte_at-2.ensures, w) at (c.new.ensures t u l))

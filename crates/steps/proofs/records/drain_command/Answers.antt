@@ -3,4 +3,4 @@ use Rattle.steps.proofs.records.drain_command.Goals as goal
 
 pub returns : goal.returns
 unfolding choose command
-returns c = λ d p. rw (← c.arg.ensures.0, ← c.spoilt.ensures) (c.drain.ensures p)
+returns c = λ d p. rw (c.said.ensures, ← c.arg-budget.ensures.0, ← c.spoilt.ensures) (c.drain.ensures p)

@@ -3,4 +3,4 @@ use Rattle.steps.proofs.records.next_command.Goals as goal
 
 pub returns : goal.returns
 unfolding choose command
-returns c = λ d p l. rw (← c.spoilt.ensures) (c.next.ensures p l)
+returns c = λ d p l. rw (c.said.ensures, ← c.spoilt.ensures) (c.next.ensures p l)

@@ -1,9 +1,0 @@
-use mathlib.Core.Path.{refl}
-use native.Mathlib.Omega.{arith}
-use Rattle.chart.proofs.table.signal_at.Goals as goal
-
-pub returns-in-Plain : goal.returns-in-Plain
-returns-in-Plain c = rw c.in-Plain.is (omega arith, omega arith, omega arith)
-
-pub returns-in-Guarded : goal.returns-in-Guarded
-returns-in-Guarded c = rw c.in-Guarded.is (refl, omega arith, omega arith)

@@ -1,0 +1,2 @@
+-- Loaded: the reply to what LOAD's code gave back.
+pub mod Loaded

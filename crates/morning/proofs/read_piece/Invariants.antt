@@ -1,6 +1,0 @@
--- The measure is what is left of the piece.
-use Rattle.std.proofs.Common.{length, ◌-◌}
-use Rattle.morning.proofs.read_piece.Given as goal
-
-abbrev pub decreases-loop-read : goal.decreases-loop-read
-decreases-loop-read g l = length l.piece - l.read.at

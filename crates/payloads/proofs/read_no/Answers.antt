@@ -1,8 +1,0 @@
-use mathlib.Core.Path.{refl, ◌∙◌}
-use Rattle.machine.specs.Events.{read_tests}
-use Rattle.state.specs.View.{state_of}
-use Rattle.payloads.proofs.read_no.Goals as goal
-
-pub returns : goal.returns
-unfolding read_tests state_of
-returns c = c.read_refusal.ensures ∙ rw c.stale-stale.ensures refl

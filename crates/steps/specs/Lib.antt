@@ -1,2 +1,0 @@
--- Step: what one step makes of the state.
-pub mod Step
