@@ -1,4 +1,4 @@
-// The calls of `areas` as they stand in its input, and somebody else's write to a table.
+// The calls of `areas` as they stand in its input.
 //
 // A call is a head, the first bytes of its record, and its chart. The head has 17 bytes; of two bytes for a number the
 // low one comes first:

@@ -96,7 +96,8 @@ fn run_chart(
     println!(rt; "sum {}", sum_of(&slot))
 }
 
-// Reads the chart behind a header into the front of the buffer and runs it, and answers whether it was there.
+// Reads the chart behind a header into the front of the buffer and runs it, and answers whether it was there. No Vec: a chart that is
+// torn off still counts as far as its header says, with zeros behind.
 fn run_case(
     rt: &(impl Print + AllocGlobal),
     input: &mut impl Read,

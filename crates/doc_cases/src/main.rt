@@ -123,7 +123,8 @@ fn play_trace(
     Ok(false)
 }
 
-// The text of a line that ends in an error is let go, as far as it still waits in its buffer.
+// The text of a line that ends in an error is let go, as far as it still waits in its buffer. A proved loop has to end, and nothing says
+// that the input does: so the traces are counted.
 fn main(rt: HostRuntime) -> io::Result<()> {
     let mut input = rt.reader();
     let mut out = BufWriter::with_capacity(rt.alloc(), LINE_BYTES, io::writer(&rt))?;

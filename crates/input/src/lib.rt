@@ -8,7 +8,8 @@ use std::alloc::Global;
 use std::io;
 use std::io::Read;
 
-// Reads until the buffer is full or the input ends, and answers how many bytes it has put at the buffer's front.
+// Reads until the buffer is full or the input ends, and answers how many bytes it has put at the buffer's front. No `read_exact`, which
+// does not say how many bytes came before the end, and no `for`, since each turn goes on by what one read gave.
 pub fn read_full(input: &mut impl Read, buffer: &mut [u8]) -> io::Result<usize>
     ensures { ReadsAtMost result buffer.new }
 {

@@ -9,16 +9,18 @@ use std::io;
 // The lowest of the blocks for so many bytes, and so the one that is handed out as long as it can be.
 const BLOCK: usize = LARGE;
 
-// Takes the block, at this generation, and frees it. None where another block or another generation is found, or nothing is freed: the
+// Takes the block, at this generation, and frees it. False where another block or another generation is found, or nothing is freed: the
 // pool is then as it was.
-fn live_once(pool: &mut Pool, generation: u64) -> Option<()> {
+fn live_once(pool: &mut Pool, generation: u64) -> bool {
     let mut next = *pool;
-    let b = next.take(LARGE_BYTES).found?;
-    if b != BLOCK || u64::from(next.generation(b)) != generation || !next.drop_new(b) {
-        return None;
+    if next.take(LARGE_BYTES).found != Some(BLOCK)
+        || u64::from(next.generation(BLOCK)) != generation
+        || !next.drop_new(BLOCK)
+    {
+        return false;
     }
     *pool = next;
-    Some(())
+    true
 }
 
 fn tell_handle(rt: &impl Print, pool: &Pool, generation: u32) -> io::Result<()> {
@@ -64,7 +66,7 @@ fn take_the_others(rt: &impl Print, pool: &mut Pool) -> io::Result<()> {
 fn main(rt: HostRuntime) -> io::Result<()> {
     let mut pool = Pool::new();
     for times in 0..u64::MAX {
-        if live_once(&mut pool, times).is_none() {
+        if !live_once(&mut pool, times) {
             tell_block(&rt, &pool, times)?;
             return take_the_others(&rt, &mut pool);
         }

@@ -92,12 +92,18 @@ impl Kind {
 
     // Whether a command names an event by its handle.
     fn has_handle(self) -> bool {
-        match self {
-            Kind::Command(Command::Post | Command::PostFront | Command::Publish) => true,
-            Kind::Command(Command::Hold | Command::Release | Command::Drop) => true,
-            Kind::Command(Command::Read) => true,
-            _ => false,
-        }
+        matches!(
+            self,
+            Kind::Command(
+                Command::Post
+                    | Command::PostFront
+                    | Command::Publish
+                    | Command::Hold
+                    | Command::Release
+                    | Command::Drop
+                    | Command::Read
+            )
+        )
     }
 
     // How many bytes the number at a place of the record takes.
@@ -273,7 +279,7 @@ fn add_word(record: &mut Option<Record>, word: &[u8]) -> Result<(), Unreadable> 
 }
 
 // Reads the next line of the input, if there is one, and echoes its text but for its end: a letter as it is read, so that a line of any
-// length is whole.
+// length is whole. A proved loop has to end, and nothing says that the line does: so the letters are counted.
 pub fn read_line(
     input: &mut impl Read,
     echo: &mut impl Write,
