@@ -115,7 +115,7 @@ pub fn command(
     }
 }
 
-// The same, with the reply where the host keeps it.
+// The same, with the reply where the host keeps it. The areas come one by one, as C lends them.
 pub fn answer_to(
     k: &mut Kernel,
     record: &[u8],

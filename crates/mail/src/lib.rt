@@ -133,7 +133,8 @@ impl Ring {
     }
 }
 
-// The highest object with mail, counted from 1; 0 where nothing is queued.
+// The highest object with mail, counted from 1; 0 where nothing is queued, and no Option: `Box.highest`, and IDLE's test, speak of this
+// number.
 pub fn highest(rings: &[Ring]) -> usize
     ensures is { result ≡ Box.highest (boxes rings.now) }
     ensures upper_bound { result ≤ length rings.now }

@@ -94,7 +94,7 @@ pub fn read(k: &Kernel, spoilt: bool, handle: Handle, payloads: &[u8]) -> Result
     Ok(reply::shown(payload_in(k, handle.block, payloads)))
 }
 
-// The place and the length that a refused READ has: a host in C has no Option.
+// The place and the length that a refused READ has: `kernel::part_at` promises these, since a host in C has no Option.
 pub fn no_part() -> Part
     ensures { (result.place ≡ 0) × (result.length ≡ 0) }
 {

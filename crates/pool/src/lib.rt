@@ -16,7 +16,8 @@ use numbers::{BLOCKS, FIRST_BYTES, LARGE, LARGE_BYTES, MIDDLE, MIDDLE_BYTES, SMA
 
 const LAST_GENERATION: u32 = 16777215;
 
-// What a block's count of references says: none yet, the last one, as many as are counted; and one above these, that it is retired.
+// What a block's count of references says: none yet, the last one, as many as are counted; and one above these, that it is retired. One
+// number, and no enum: any bytes are a pool, as C needs it.
 const NEW: u16 = 0;
 
 const LAST: u16 = 1;

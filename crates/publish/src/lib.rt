@@ -14,7 +14,7 @@ use ground::byte_at;
 use mail::{Hand, Ring, entry_of};
 use numbers::{ALL_SIGNAL_PLACES, OBJECTS, SIGNAL_PLACES};
 
-// Whether object p subscribes to signal g.
+// Whether object p subscribes to signal g. The array is flat, as `want_place` has it.
 pub fn subscribes(wants: &[u8; ALL_SIGNAL_PLACES], p: usize, g: usize) -> bool
     requires { (1 ≤ p) × (p ≤ objects) × (g < 256) }
     ensures { result ≡ eqb (get_or wants.now (want_place p g) 0) 1 }

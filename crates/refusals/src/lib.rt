@@ -1,4 +1,5 @@
 // The tests of each command in the document's order, by ascending number: the first that holds refuses. `spoilt`: an unused byte is not 0.
+// A row of tests takes what its command knows, one value for a line of the document's table, and no struct: each row is another.
 #![tactic(auto, unfolding(machine::specs::Reply::lowest))]
 
 ghost use Rattle.std.specs.Prelude.{◌&&◌, cond, not, [], ◌∷◌, ◌≡◌, eqb, leb, true, false, MatchResult};

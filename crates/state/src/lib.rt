@@ -16,7 +16,9 @@ use tick::Timer;
 // The entry in hand while no step is open.
 pub const NO_EVENT: u16 = 0;
 
-// Object p has place p - 1 of `mail`, `depths`, `seats` and `rests`. Any bytes are a kernel.
+// Object p has place p - 1 of `mail`, `depths`, `seats` and `rests`. Any bytes are a kernel, since C lends any to `trunhoac_fresh`: so
+// `Good` is a clause, and no ghost field. An array for each field of an event and of an object, and no struct: steps read signals and seats
+// alone while they write rests, PUBLISH lends depths alone, and the machine's state has these lists.
 #[repr(C)]
 #[derive(Clone, Copy, Debug, PartialEq, Eq)]
 pub struct Kernel {
@@ -83,7 +85,7 @@ impl Kernel {
         self.hand != NO_EVENT
     }
 
-    // The depth of object p's mailbox, 0 where it is not started.
+    // The depth of object p's mailbox, 0 where it is not started and where there is no such object; p = 0 reads as 1, as in the definition.
     fn depth(&self, p: usize) -> usize
         ensures { result ≡ machine.depth_of (state_of self.now) p }
     {

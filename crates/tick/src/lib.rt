@@ -11,7 +11,7 @@ use mail::{Hand, Ring, entry_of};
 use numbers::{OBJECTS, TIMERS};
 
 // A timer of object `owner`, which sends it the signal `alarm`. The counter has the ticks that are left, 0 where it is not armed; the
-// interval is the next counter, 0 where it fires once.
+// interval is the next counter, 0 where it fires once. Numbers, and no Option: any bytes are a timer, as C needs it.
 #[repr(C)]
 #[derive(Clone, Copy, Debug, PartialEq, Eq)]
 pub struct Timer {
