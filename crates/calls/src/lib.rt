@@ -15,7 +15,7 @@
 ghost use Rattle.std.specs.Prelude.{◌≤◌};
 ghost use Rattle.calls.specs.declared.TheConstants.{GUARDED_ROOM, LOG_ROOM, PAYLOADS_ROOM, TABLES_ROOM};
 
-use input::{read_array, read_vec};
+use input::{read_array, read_at_most, read_vec};
 use numbers::{GUARDED_AREA, LOG_AREA, PAYLOAD_AREA, TABLE_AREA};
 use std::alloc::Global;
 use std::io;
@@ -50,7 +50,7 @@ pub struct Poke {
 }
 
 // How many first bytes are lent of each area.
-#[derive(Clone, Copy, Debug)]
+#[derive(Clone, Copy, Debug, PartialEq, Eq)]
 pub struct Lent {
     pub payloads: usize,
     pub tables: usize,
@@ -62,7 +62,7 @@ pub struct Lent {
     ghost log_fits: { log ≤ LOG_ROOM },
 }
 
-#[derive(Drop)]
+#[derive(Clone, Debug, PartialEq, Eq, Drop)]
 pub struct Call {
     pub is_fresh: bool,
     pub record: Vec<u8>,
@@ -131,14 +131,14 @@ pub fn read_call(alloc: Global, input: &mut impl Read) -> io::Result<Option<Call
         return Ok(None);
     };
     let poke = poke_of(head);
-    if length < given || CHART_ROOM < chart_length || !poke.is_none_or(fits) {
+    if length < given || !poke.is_none_or(fits) {
         return Ok(None);
     }
     let Some(mut record) = read_vec(alloc, input, given)? else {
         return Ok(None);
     };
     record.resize(length, 0)?;
-    let Some(chart) = read_vec(alloc, input, chart_length)? else {
+    let Some(chart) = read_at_most(alloc, input, chart_length, CHART_ROOM)? else {
         return Ok(None);
     };
     Ok(Some(Call {

@@ -97,32 +97,42 @@ unfolding up_to
 up_to_top_go s p h true e = refl
 up_to_top_go s p h false e = rw (e, h)
 
--- Row i of those outward from s, after k turns.
+-- Row i of those outward from s, one turn of at most k.
 module _ (d : List ℕ) (g : ℕ) where
-  pub nth_top : (i k s : ℕ) → s ≡ 0 → nth_out d g i (path (levels - k) d s) ≡ 0
+  pub nth_none : (i k s : ℕ) → k ≡ 0 → nth_out d g i (path k d s) ≡ 0
   unfolding nth_out
-  nth_top i k s e = rw (path_top d (levels - k) s e)
+  nth_none i k s e = rw (path_none d k s e)
+
+  pub nth_top : (i k s : ℕ) → s ≡ 0 → nth_out d g i (path k d s) ≡ 0
+  unfolding nth_out
+  nth_top i k s e = rw (path_top d k s e)
 
   pub nth_done : (i k s : ℕ) → levels ≤ k → nth_out d g i (path (levels - k) d s) ≡ 0
-  unfolding nth_out
-  nth_done i k s h = rw (path_done d k s h)
+  nth_done i k s h = nth_none i (levels - k) s (sub_none k levels h)
 
-  module _ (i k s : ℕ) (m : k < levels) (n : s ≡ 0 → ⊥) where
-    pub nth_pass : has_row d g s ≡ false → nth_out d g i (path (levels - k) d s) ≡ nth_out d g i (path (levels - (k + 1)) d (parent d s))
+  module _ (i k s : ℕ) (m : k ≡ 0 → ⊥) (n : s ≡ 0 → ⊥) where
+    pub nth_pass : has_row d g s ≡ false → nth_out d g i (path k d s) ≡ nth_out d g i (path (k - 1) d (parent d s))
     unfolding nth_out
-    nth_pass h = rw (path-more d k s m n, h)
+    nth_pass h = rw (path-suc d k s m n, h)
 
-    pub nth_here : has_row d g s ≡ true → i ≡ 0 → nth_out d g i (path (levels - k) d s) ≡ s
+    pub nth_here : has_row d g s ≡ true → i ≡ 0 → nth_out d g i (path k d s) ≡ s
     unfolding nth_out
-    nth_here h e = rw (path-more d k s m n, h, eq-eqb i 0 e)
+    nth_here h e = rw (path-suc d k s m n, h, eq-eqb i 0 e)
 
-    pub nth_last : has_row d g s ≡ true → (i ≡ 0 → ⊥) → flag_of d g s ≡ 0 → nth_out d g i (path (levels - k) d s) ≡ 0
+    pub nth_last : has_row d g s ≡ true → (i ≡ 0 → ⊥) → flag_of d g s ≡ 0 → nth_out d g i (path k d s) ≡ 0
     unfolding nth_out
-    nth_last h e f = rw (path-more d k s m n, h, ne_eqb i 0 e, eq-eqb (flag_of d g s) 0 f)
+    nth_last h e f = rw (path-suc d k s m n, h, ne_eqb i 0 e, eq-eqb (flag_of d g s) 0 f)
 
-    pub nth_next : has_row d g s ≡ true → (i ≡ 0 → ⊥) → (flag_of d g s ≡ 0 → ⊥) → nth_out d g i (path (levels - k) d s) ≡ nth_out d g (i - 1) (path (levels - (k + 1)) d (parent d s))
+    pub nth_next : has_row d g s ≡ true → (i ≡ 0 → ⊥) → (flag_of d g s ≡ 0 → ⊥) → nth_out d g i (path k d s) ≡ nth_out d g (i - 1) (path (k - 1) d (parent d s))
     unfolding nth_out
-    nth_next h e f = rw (path-more d k s m n, h, ne_eqb i 0 e, ne_eqb (flag_of d g s) 0 f)
+    nth_next h e f = rw (path-suc d k s m n, h, ne_eqb i 0 e, ne_eqb (flag_of d g s) 0 f)
+
+-- Of the levels, k were gone through: one is left, and behind it one fewer.
+pub level_left : (k : ℕ) → k < levels → levels - k ≡ 0 → ⊥
+level_left k h e = let none : ⊥ = omega arith in none
+
+pub level_less : (k : ℕ) → levels - k - 1 ≡ levels - (k + 1)
+level_less k = omega arith
 
 -- Initial transitions, one turn.
 module _ (d : List ℕ) where

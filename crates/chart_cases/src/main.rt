@@ -68,10 +68,10 @@ fn write_row(rt: &impl Print, offset: usize, row: &[u8]) -> io::Result<()>
         return Ok(());
     }
     let used = row.len().min(ACTIONS_IN_ROW + usize::from(row[2]));
-    print!(rt; "{offset}:{}", Spaced(&row[..used]))?;
+    let bytes = Spaced(&row[..used]);
     match row[FLAG_IN_ROW] {
-        0 => println!(rt),
-        flag => println!(rt; " flag {flag}"),
+        0 => println!(rt; "{offset}:{bytes}"),
+        flag => println!(rt; "{offset}:{bytes} flag {flag}"),
     }
 }
 

@@ -13,9 +13,9 @@
 
 ghost use Rattle.state.specs.View.{Good};
 
+use arrayvec::ArrayVec;
 use kernel::{Kernel, Reply};
 use player::KernelAreas;
-use std::alloc::Global;
 use std::io;
 use std::io::{BufWriter, Read, Write};
 use std::rt::Files;
@@ -25,25 +25,46 @@ use words::{Entry, Unreadable};
 // One byte more than a chart may have. A longer one is cut off there, and is still a chart that is too long.
 const CHART_ROOM: usize = numbers::LONGEST_CHART + 1;
 
-// So many bytes of a line wait for its end: the front of a longer one is written before.
+// Fewer bytes of a line wait for its end: so many are written as soon as they are there.
 const LINE_BYTES: usize = 256;
+
+// Writes in pieces of so many bytes, and the rest where it is flushed.
+#[derive(Drop)]
+struct Pieces<W: Write + Drop> {
+    piece: BufWriter<W>,
+}
+
+impl<W: Write + Drop> Write for Pieces<W> {
+    fn write(&mut self, bytes: &[u8]) -> io::Result<usize> {
+        let room = LINE_BYTES.saturating_sub(self.piece.buffer().len());
+        let n = self.piece.write(&bytes[..bytes.len().min(room)])?;
+        if LINE_BYTES <= self.piece.buffer().len() {
+            self.piece.flush()?;
+        }
+        Ok(n)
+    }
+
+    fn flush(&mut self) -> io::Result<()> {
+        self.piece.flush()
+    }
+}
 
 // A trace in play, with the chart that stands before the next command.
 #[derive(Drop)]
 struct Trace {
     kernel: Kernel,
     areas: KernelAreas,
-    chart: Vec<u8>,
+    chart: ArrayVec<u8, CHART_ROOM>,
 }
 
 impl Trace {
-    fn new(alloc: Global) -> Trace
+    fn new() -> Trace
         ensures { Good result.kernel }
     {
         Trace {
             kernel: kernel::fresh(),
             areas: KernelAreas::new(),
-            chart: Vec::new(alloc),
+            chart: ArrayVec::new(),
         }
     }
 
@@ -90,8 +111,10 @@ impl Trace {
             }
             Ok(Entry::ChartRecord(record)) => {
                 writeln!(out)?;
-                self.chart.extend_from_slice(record.as_slice())?;
-                self.chart.truncate(CHART_ROOM);
+                // What there is no room for is cut off.
+                let room = CHART_ROOM.saturating_sub(self.chart.len());
+                let bytes = &record[..record.len().min(room)];
+                let _ = self.chart.try_extend_from_slice(bytes);
             }
             Ok(Entry::Command(record)) => {
                 let reply = self.answer(rt, record.as_slice())?;
@@ -104,12 +127,8 @@ impl Trace {
 
 // Plays a trace: echoes each line as it is read, and ends it. Answers whether another trace follows.
 // A proved loop has to end, and nothing says that the input does: so the turns are counted.
-fn play_trace(
-    rt: &(impl Files + AllocGlobal),
-    input: &mut impl Read,
-    out: &mut impl Write,
-) -> io::Result<bool> {
-    let mut trace = Trace::new(rt.alloc());
+fn play_trace(rt: &impl Files, input: &mut impl Read, out: &mut impl Write) -> io::Result<bool> {
+    let mut trace = Trace::new();
     for _ in 0..u64::MAX {
         let Some(line) = words::read_line(input, out)? else {
             break;
@@ -127,13 +146,15 @@ fn play_trace(
 // that the input does: so the traces are counted.
 fn main(rt: HostRuntime) -> io::Result<()> {
     let mut input = rt.reader();
-    let mut out = BufWriter::with_capacity(rt.alloc(), LINE_BYTES, io::writer(&rt))?;
+    let mut out = Pieces {
+        piece: BufWriter::with_capacity(rt.alloc(), LINE_BYTES, io::writer(&rt))?,
+    };
     for _ in 0..u64::MAX {
         match play_trace(&rt, &mut input, &mut out) {
             Ok(true) => {}
             Ok(false) => break,
             Err(error) => {
-                let _unwritten = out.into_parts();
+                let _unwritten = out.piece.into_parts();
                 return Err(error);
             }
         }

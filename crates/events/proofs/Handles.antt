@@ -11,16 +11,17 @@ use Rattle.pool.specs.Cell.{Cell, free, live, retired, absent, is_new, dropped}
 use Rattle.pool.specs.Row.{at, changed}
 use Rattle.machine.specs.Reply.{FORM, RANGE, STALE, lowest}
 
--- The block is one of the blocks, and the last test does not hold.
-pub record Allowed (b : ℕ) (last : Bool) : Type 0 where
+-- The block is one of the blocks, the handle is not stale, and the last test does not hold.
+pub record Allowed (b : ℕ) (stale last : Bool) : Type 0 where
   pub block : b < blocks
+  pub live : stale ≡ false
   pub passed : last ≡ false
 
 pub handle_allowed : (spoilt : Bool) (b : ℕ) (stale : Bool) (n : ℕ) (last : Bool) → numbered ((n, last) ∷ []) ≡ true →
-    0 ≡ lowest ((FORM, spoilt) ∷ (RANGE, no_block b) ∷ (STALE, stale) ∷ (n, last) ∷ []) → Allowed b last
+    0 ≡ lowest ((FORM, spoilt) ∷ (RANGE, no_block b) ∷ (STALE, stale) ∷ (n, last) ∷ []) → Allowed b stale last
 handle_allowed spoilt b stale n last num e =
     let h = none_holds ((FORM, spoilt) ∷ (RANGE, no_block b) ∷ (STALE, stale) ∷ (n, last) ∷ []) num (sym e) in
-    record { block = within_block b h.1.0; passed = h.1.1.1.0 }
+    record { block = within_block b h.1.0; live = h.1.1.0; passed = h.1.1.1.0 }
 
 -- the tests before the last one
 abbrev pub others : Bool → Bool → Bool → List (ℕ × Bool)

@@ -14,8 +14,9 @@ use chart::read::{
 use ground::blank;
 use numbers::LONGEST_CHART;
 
-// The fault of a chart, that of the lowest class.
+// The fault of a chart, that of the lowest class. In line, so that each call has code for its own edition.
 #[tactic(auto, unfolding(chart::specs::Chart::class_of))]
+#[inline(always)]
 pub fn check(e: Edition, chart: &[u8]) -> Result<(), Fault>
     ensures { answer_class result ≡ class_of e chart.now }
 {
@@ -63,12 +64,12 @@ fn form_ok(e: Edition, part: &[u8], kind: RecordKind) -> bool
     requires { 8 ≤ length part.now }
     ensures { result ≡ form_ok e (kind_number kind) part.now }
 {
-    let filler = match kind {
-        RecordKind::Top => 3,
-        RecordKind::State => 6,
-        RecordKind::Row => e.row_filler(),
-    };
-    part[0] == kind as u8 && blank(part, filler, 8)
+    part[0] == kind as u8
+        && match kind {
+            RecordKind::Top => blank(part, 3, 8),
+            RecordKind::State => blank(part, 6, 8),
+            RecordKind::Row => blank(part, e.row_filler(), 8),
+        }
 }
 
 // Class 2: the records' kinds and filler bytes, and the number of states.

@@ -17,7 +17,7 @@ module _ (s : List ℕ) (n : ℕ) (l : n ≤ length s) where
   unfolding front
   part_front h = rw part_length (take-take (n - 1) n s (omega arith))
 
-  fits_long : 3 ≤ n → fits (take n s) ≡ eqb (get_or s (n - 1) 0) (check_of (take (n - 1) s))
+  pub fits_long : 3 ≤ n → fits (take n s) ≡ eqb (get_or s (n - 1) 0) (check_of (take (n - 1) s))
   unfolding fits
   fits_long h = rw (le-leb 3 (length (take n s)) (omega (arith, part_length)), part_front h, part_length, get_or-take n s (n - 1) 0 (omega arith)) refl
 

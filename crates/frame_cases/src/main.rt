@@ -9,8 +9,7 @@
 mod reading;
 mod writing;
 
-use input::{read_array, read_vec};
-use std::alloc::Global;
+use input::{read_array, read_at_most};
 use std::io;
 use std::io::Read;
 
@@ -18,18 +17,8 @@ const MOST_STREAM: usize = 1500;
 
 const MOST_DATA: usize = 400;
 
-// So many bytes, none where the input ends before or they are more than a case has.
-fn read_at_most(
-    alloc: Global,
-    input: &mut impl Read,
-    length: [u8; 2],
-    most: usize,
-) -> io::Result<Option<Vec<u8>>> {
-    let n = usize::from(u16::from_le_bytes(length));
-    if most < n {
-        return Ok(None);
-    }
-    read_vec(alloc, input, n)
+fn two_bytes(low: u8, high: u8) -> usize {
+    usize::from(u16::from_le_bytes([low, high]))
 }
 
 // Runs a writer's case, and answers whether it was there.
@@ -37,20 +26,21 @@ fn run_writer(rt: &(impl Print + AllocGlobal), input: &mut impl Read) -> io::Res
     let Some(head) = read_array::<6>(input)? else {
         return Ok(false);
     };
-    let size = [head[4], head[5]];
+    let size = two_bytes(head[4], head[5]);
     let Some(data) = read_at_most(rt.alloc(), input, size, MOST_DATA)? else {
         return Ok(false);
     };
-    let room = u16::from_le_bytes([head[2], head[3]]);
-    writing::run(rt, head[0], head[1], usize::from(room), &data)?;
+    let room = two_bytes(head[2], head[3]);
+    writing::run(rt, head[0], head[1], room, &data)?;
     Ok(true)
 }
 
 // Runs a reader's case, and answers whether it was there.
 fn run_reader(rt: &(impl Print + AllocGlobal), input: &mut impl Read) -> io::Result<bool> {
-    let Some(length) = read_array(input)? else {
+    let Some(head) = read_array::<2>(input)? else {
         return Ok(false);
     };
+    let length = two_bytes(head[0], head[1]);
     let Some(stream) = read_at_most(rt.alloc(), input, length, MOST_STREAM)? else {
         return Ok(false);
     };

@@ -5,18 +5,28 @@
 //     cuts 17
 ghost use Rattle.std.specs.Prelude.{◌≤◌, length};
 
+use frame::reader;
 use frame::reader::Reader;
 use std::alloc::{AllocError, Global};
 use std::{fmt, io};
 use text::Spaced;
 
 // What a reader handed out.
-#[derive(PartialEq, Eq, Drop)]
+#[derive(Drop)]
 struct Frame {
     number: u8,
     kind: u8,
     gap: bool,
     bytes: Vec<u8>,
+}
+
+impl Frame {
+    fn is(&self, frame: reader::Frame, bytes: &[u8]) -> bool {
+        self.number == frame.number
+            && self.kind == frame.kind
+            && self.gap == frame.gap
+            && self.bytes.as_slice() == bytes
+    }
 }
 
 impl fmt::Display for Frame {
@@ -60,37 +70,75 @@ impl Report {
     }
 }
 
+// A reader that reads the stream again, and the frames that it has still to hand out. It keeps none, since a stream is read again once for
+// each of its bytes.
+#[derive(Drop)]
+struct Again<'a> {
+    reader: Reader,
+    left: &'a [Frame],
+    agrees: bool,
+}
+
+impl<'a> Again<'a> {
+    fn new(frames: &'a [Frame]) -> Again<'a> {
+        Again {
+            reader: Reader::new(),
+            left: frames,
+            agrees: true,
+        }
+    }
+
+    fn read(&mut self, piece: &[u8]) {
+        let mut rest = piece;
+        while !rest.is_empty() {
+            let fed = self.reader.feed(rest);
+            rest = &rest[fed.read..];
+            if let Some(frame) = fed.frame {
+                self.hand_out(frame);
+            }
+        }
+    }
+
+    fn hand_out(&mut self, frame: reader::Frame) {
+        let left = self.left;
+        match left.split_first() {
+            Some((next, others)) if next.is(frame, self.reader.data(frame)) => self.left = others,
+            _ => self.agrees = false,
+        }
+    }
+
+    // Whether it has handed out the same frames, and all of them.
+    fn ended(self) -> bool {
+        self.agrees && self.left.is_empty()
+    }
+}
+
 // Whether the stream, cut there, gives the same frames.
-fn cut_agrees(
-    alloc: Global,
-    stream: &[u8],
-    cut: usize,
-    frames: &Vec<Frame>,
-) -> Result<bool, AllocError>
+fn cut_agrees(stream: &[u8], cut: usize, frames: &[Frame]) -> bool
     requires { cut ≤ length stream.now }
 {
-    let mut report = Report::new(alloc);
-    report.read(alloc, &stream[..cut])?;
-    report.read(alloc, &stream[cut..])?;
-    Ok(report.frames == *frames)
+    let mut again = Again::new(frames);
+    again.read(&stream[..cut]);
+    again.read(&stream[cut..]);
+    again.ended()
 }
 
 // Whether the stream, byte by byte, gives the same frames.
-fn bytes_agree(alloc: Global, stream: &[u8], frames: &Vec<Frame>) -> Result<bool, AllocError> {
-    let mut report = Report::new(alloc);
+fn bytes_agree(stream: &[u8], frames: &[Frame]) -> bool {
+    let mut again = Again::new(frames);
     for byte in stream {
-        report.read(alloc, &[*byte])?;
+        again.read(&[*byte]);
     }
-    Ok(report.frames == *frames)
+    again.ended()
 }
 
 // How many ways of cutting give the same frames: into bytes, and at each place.
-fn count_cuts(alloc: Global, stream: &[u8], frames: &Vec<Frame>) -> Result<u64, AllocError> {
-    let mut count = u64::from(bytes_agree(alloc, stream, frames)?);
+fn count_cuts(stream: &[u8], frames: &[Frame]) -> u64 {
+    let mut count = u64::from(bytes_agree(stream, frames));
     for cut in 0..=stream.len() {
-        count = count.wrapping_add(u64::from(cut_agrees(alloc, stream, cut, frames)?));
+        count = count.wrapping_add(u64::from(cut_agrees(stream, cut, frames)));
     }
-    Ok(count)
+    count
 }
 
 pub fn run(rt: &(impl Print + AllocGlobal), stream: &[u8]) -> io::Result<()> {
@@ -99,6 +147,6 @@ pub fn run(rt: &(impl Print + AllocGlobal), stream: &[u8]) -> io::Result<()> {
     for frame in &whole.frames {
         println!(rt; "{frame}")?;
     }
-    let cuts = count_cuts(rt.alloc(), stream, &whole.frames)?;
+    let cuts = count_cuts(stream, &whole.frames);
     println!(rt; "cuts {cuts}")
 }

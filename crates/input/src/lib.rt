@@ -1,7 +1,7 @@
 // Bytes of an input, for the programs that are run on cases.
 #![tactic(auto)]
 
-ghost use Rattle.std.specs.Prelude.{◌≡◌, IfOk, IfSome, vec_len};
+ghost use Rattle.std.specs.Prelude.{◌≡◌, ◌≤◌, IfOk, IfSome, vec_len};
 ghost use Rattle.std.specs.Io.{ReadsAtMost};
 
 use std::alloc::Global;
@@ -40,6 +40,19 @@ pub fn read_vec(alloc: Global, input: &mut impl Read, n: usize) -> io::Result<Op
     Ok(if read == n { Some(bytes) } else { None })
 }
 
+// The next n bytes, or none where the input ends before, or they are more than so many: of these the first are read, and are gone.
+pub fn read_at_most(
+    alloc: Global,
+    input: &mut impl Read,
+    n: usize,
+    most: usize,
+) -> io::Result<Option<Vec<u8>>>
+    ensures { IfOk result (λ read. IfSome read (λ bytes. (vec_len bytes ≡ n) × (n ≤ most))) }
+{
+    let bytes = read_vec(alloc, input, n.min(most))?;
+    Ok(if n <= most { bytes } else { None })
+}
+
 // The next byte, or none at the input's end.
 pub fn read_byte(input: &mut impl Read) -> io::Result<Option<u8>> {
     let mut byte = [0u8];
@@ -62,6 +75,17 @@ mod tests {
         assert_eq!(rt; read_array::<2>(&mut input)?, None);
         assert_eq!(rt; read_byte(&mut input)?, None);
         assert!(rt; read_vec(rt.alloc(), &mut input, 1)?.is_none());
+        Ok(())
+    }
+
+    #[test]
+    fn reads_the_first_of_too_many(rt: HostRuntime) -> Result<(), Fail> {
+        let mut input = b"abcdef".as_slice();
+        let piece = read_at_most(rt.alloc(), &mut input, 2, 2)?;
+        assert!(rt; piece.is_some_and(|bytes| bytes.as_slice() == b"ab".as_slice()));
+        assert!(rt; read_at_most(rt.alloc(), &mut input, 3, 2)?.is_none());
+        assert_eq!(rt; read_byte(&mut input)?, Some(b'e'));
+        assert!(rt; read_at_most(rt.alloc(), &mut input, 2, 2)?.is_none());
         Ok(())
     }
 }

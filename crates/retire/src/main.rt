@@ -9,18 +9,12 @@ use std::io;
 // The lowest of the blocks for so many bytes, and so the one that is handed out as long as it can be.
 const BLOCK: usize = LARGE;
 
-// Takes the block, at this generation, and frees it. False where another block or another generation is found, or nothing is freed: the
-// pool is then as it was.
+// Takes the block, at this generation, and frees it. False where it has another generation, and the pool is then as it was, or where
+// another block is found or nothing is freed.
 fn live_once(pool: &mut Pool, generation: u64) -> bool {
-    let mut next = *pool;
-    if next.take(LARGE_BYTES).found != Some(BLOCK)
-        || u64::from(next.generation(BLOCK)) != generation
-        || !next.drop_new(BLOCK)
-    {
-        return false;
-    }
-    *pool = next;
-    true
+    u64::from(pool.generation(BLOCK)) == generation
+        && pool.take(LARGE_BYTES).found == Some(BLOCK)
+        && pool.drop_new(BLOCK)
 }
 
 fn tell_handle(rt: &impl Print, pool: &Pool, generation: u32) -> io::Result<()> {
@@ -47,11 +41,14 @@ fn tell_block(rt: &impl Print, pool: &Pool, times: u64) -> io::Result<()> {
 // Takes another block of that size, and tells which, with the mark.
 fn take_another(rt: &impl Print, pool: &mut Pool) -> io::Result<()> {
     let taken = pool.take(LARGE_BYTES);
+    let mark = taken.mark;
     match taken.found {
-        Some(b) => print!(rt; "next: block {b} at generation {}", pool.generation(b))?,
-        None => print!(rt; "next: no block")?,
+        Some(b) => println!(rt;
+            "next: block {b} at generation {}, least free {mark}",
+            pool.generation(b)
+        ),
+        None => println!(rt; "next: no block, least free {mark}"),
     }
-    println!(rt; ", least free {}", taken.mark)
 }
 
 // Takes as many as there are blocks of that size: the last time there is none, since the retired block counts as taken.

@@ -38,7 +38,7 @@ const WORD_ROOM: usize = MOST_DIGITS + 1;
 #[derive(Clone, Copy, Debug, PartialEq, Eq)]
 pub struct Unreadable;
 
-#[derive(Drop)]
+#[derive(Clone, Debug, PartialEq, Eq, Drop)]
 pub enum Entry {
     Nothing,
     Fresh,
