@@ -128,13 +128,14 @@ impl Reader {
         ensures told { Tells result (frames_told self.new result) }
     {
         let frame = self.whole_frame();
-        if let Some(whole) = frame {
-            self.any = 1;
-            self.last = whole.number;
-        }
         self.length = 0;
         self.escaped = 0;
-        frame
+        let Some(whole) = frame else {
+            return None;
+        };
+        self.any = 1;
+        self.last = whole.number;
+        Some(whole)
     }
 
     // One unescaped byte more, behind the first n.
