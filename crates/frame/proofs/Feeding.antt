@@ -20,6 +20,12 @@ module _ (r : Reader) where
   told_none (Some f) h = no_yes (sym h)
   told_none None h = refl
 
+-- Readers with the same bytes tell the same.
+pub told_alike : (r q : Reader) (o : Option Told) → r.bytes ≡ q.bytes → frames_told r o ≡ frames_told q o
+unfolding frames_told
+told_alike r q (Some f) e = rw e refl
+told_alike r q None e = refl
+
 -- Of the piece l, fed in the state s, i bytes are read, which complete nothing and lead to the state now.
 pub record SoFar (s : State) (l : List ℕ) (i : ℕ) (now : State) : Type 0 where
   pub quiet : Quiet s (take i l) now

@@ -30,3 +30,7 @@ is_yes b = not (b == 0)
 
 unfoldable pub state_of : Reader → State
 state_of r = state (part_of r.length (is_yes r.escaped) r.bytes) (last_of (is_yes r.any) r.last)
+
+-- The state of a reader whose part stands beside it, while a piece is read.
+abbrev pub state_with : Reader → Told → State
+state_with r p = state (seen p r.bytes) (last_of (is_yes r.any) r.last)

@@ -2,6 +2,7 @@
 ghost use Rattle.std.specs.Prelude.{◌≡◌, ◌≤◌, length, take, drop};
 ghost use Rattle.frame.specs.Reading.{Feeds, after, ended, fresh, gap_at, given, pushed, state, taken};
 ghost use Rattle.frame.specs.Wire.{most_bytes, most_data};
+ghost use Rattle.frame.specs.declared.reader.Part.TheVariants.{Plain};
 
 use super::*;
 
@@ -15,6 +16,7 @@ pub const DATA: usize = 2;
 const SPOILT: u8 = MOST_BYTES as u8 + 1;
 
 // What has come since the last FLAG: so many bytes (unescaped), the same and then ESCAPE, or what can be no frame any more.
+// While a piece is read it stands beside the reader, whose length and escaped say nothing until `keep` writes it back.
 #[derive(Clone, Copy, Debug, PartialEq, Eq)]
 enum Part {
     Plain(usize),
@@ -53,7 +55,7 @@ pub struct Fed {
 
 #[tactic(auto, unfolding(crate::proofs::Opened::reader))]
 impl Reader {
-    ghost use Rattle.frame.specs.Inside.{seen, size_in};
+    ghost use Rattle.frame.specs.Inside.{seen, size_in, state_with};
     ghost use Rattle.frame.specs.View.{Tells, Within, frames_of, frames_told, state_of};
 
     // A reader that has read nothing.
@@ -78,7 +80,7 @@ impl Reader {
     }
 
     fn part(&self) -> Part
-        ensures part { seen result self.now.bytes ≡ (state_of self.now).part }
+        ensures part { state_with self.now result ≡ state_of self.now }
         ensures most { size_in result ≤ most_bytes }
     {
         let length = usize::from(self.length);
@@ -98,11 +100,12 @@ impl Reader {
     }
 
     // The frame that FLAG completes, if any.
-    fn whole_frame(&self) -> Option<Frame>
-        ensures handed { frames_told self.now result ≡ ended (state_of self.now).part (state_of self.now).last }
+    fn whole_frame(&self, part: Part) -> Option<Frame>
+        requires { size_in part ≤ most_bytes }
+        ensures handed { frames_told self.now result ≡ ended (seen part self.now.bytes) (state_of self.now).last }
         ensures told { Tells result (frames_told self.now result) }
     {
-        let Part::Plain(length) = self.part() else {
+        let Part::Plain(length) = part else {
             return None;
         };
         if length < LEAST_BYTES {
@@ -121,66 +124,81 @@ impl Reader {
         })
     }
 
-    // FLAG: the frame that it completes, if any. The next frame starts.
-    fn end(&mut self) -> Option<Frame>
-        ensures handed { frames_told self.new result ≡ given (state_of self.old) FLAG }
-        ensures then { state_of self.new ≡ after (state_of self.old) FLAG }
+    // FLAG: the frame that it completes, if any. Its number is then the last.
+    fn end(&mut self, part: Part) -> Option<Frame>
+        requires { size_in part ≤ most_bytes }
+        ensures handed { frames_told self.new result ≡ given (state_with self.old part) FLAG }
+        ensures then { state_with self.new (Plain 0) ≡ after (state_with self.old part) FLAG }
         ensures told { Tells result (frames_told self.new result) }
     {
-        let frame = self.whole_frame();
-        self.length = 0;
-        self.escaped = 0;
-        let Some(whole) = frame else {
-            return None;
-        };
+        let whole = self.whole_frame(part)?;
         self.any = 1;
         self.last = whole.number;
         Some(whole)
     }
 
     // One unescaped byte more, behind the first n.
-    fn push(&mut self, n: usize, byte: u8)
+    fn push(&mut self, n: usize, byte: u8) -> Part
         requires { n ≤ most_bytes }
-        ensures { state_of self.new ≡ state (pushed (take n self.old.bytes) byte) (state_of self.old).last }
+        ensures then { state_with self.new result ≡ state (pushed (take n self.old.bytes) byte) (state_of self.old).last }
+        ensures most { size_in result ≤ most_bytes }
     {
         if n < MOST_BYTES {
             self.bytes[n] = byte;
-            self.length = n as u8 + 1;
-            self.escaped = 0;
+            Part::Plain(n + 1)
         } else {
-            self.length = SPOILT;
+            Part::Spoilt
         }
     }
 
     // A byte that is not FLAG.
-    fn take_in(&mut self, byte: u8)
-        ensures { state_of self.new ≡ state (taken (state_of self.old).part byte) (state_of self.old).last }
+    fn take_in(&mut self, part: Part, byte: u8) -> Part
+        requires { size_in part ≤ most_bytes }
+        ensures then { state_with self.new result ≡ state (taken (seen part self.old.bytes) byte) (state_of self.old).last }
+        ensures most { size_in result ≤ most_bytes }
     {
-        match self.part() {
-            Part::Spoilt => {}
+        match part {
+            Part::Spoilt => Part::Spoilt,
             Part::Escaped(n) => match byte {
                 FLAG_SENT => self.push(n, FLAG),
                 ESCAPE_SENT => self.push(n, ESCAPE),
-                _ => self.length = SPOILT,
+                _ => Part::Spoilt,
             },
             Part::Plain(n) => match byte {
-                ESCAPE => self.escaped = 1,
+                ESCAPE => Part::Escaped(n),
                 _ => self.push(n, byte),
             },
         }
     }
 
-    // Any byte: the frame that it completes, if any.
-    fn step(&mut self, byte: u8) -> Option<Frame>
-        ensures handed { frames_told self.new result ≡ given (state_of self.old) byte }
-        ensures then { state_of self.new ≡ after (state_of self.old) byte }
+    // Any byte: the frame that it completes, if any. With FLAG the next frame starts.
+    fn step(&mut self, part: &mut Part, byte: u8) -> Option<Frame>
+        requires { size_in part.old ≤ most_bytes }
+        ensures handed { frames_told self.new result ≡ given (state_with self.old part.old) byte }
+        ensures then { state_with self.new part.new ≡ after (state_with self.old part.old) byte }
+        ensures most { size_in part.new ≤ most_bytes }
         ensures told { Tells result (frames_told self.new result) }
     {
         if byte == FLAG {
-            return self.end();
+            let frame = self.end(*part);
+            *part = Part::Plain(0);
+            return frame;
         }
-        self.take_in(byte);
+        *part = self.take_in(*part, byte);
         None
+    }
+
+    // What has come is kept for the next piece.
+    fn keep(&mut self, part: Part)
+        requires { size_in part ≤ most_bytes }
+        ensures state { state_of self.new ≡ state_with self.old part }
+        ensures bytes { self.new.bytes ≡ self.old.bytes }
+    {
+        (self.length, self.escaped) = match part {
+            Part::Plain(n) => (n as u8, 0),
+            Part::Escaped(n) => (n as u8, 1),
+            Part::Spoilt => (SPOILT, 0),
+        };
     }
 
     // Reads a piece up to and with the first byte that completes a frame, else all of it.
@@ -188,12 +206,16 @@ impl Reader {
         ensures feeds { Feeds (state_of self.old) piece.now result.read (frames_of self.new result) (state_of self.new) }
         ensures within { Within piece.now self.new result }
     {
+        // What has come is held here and not in the reader, where each byte would cost stores and loads.
+        let mut part = self.part();
         for (i, byte) in piece.iter().enumerate() {
-            let frame = self.step(*byte);
+            let frame = self.step(&mut part, *byte);
             if frame.is_some() {
+                self.keep(part);
                 return Fed { read: i + 1, frame };
             }
         }
+        self.keep(part);
         Fed {
             read: piece.len(),
             frame: None,
